@@ -1,0 +1,4 @@
+pub mod Refusals
+pub mod Circuit
+pub mod Theorems
+pub mod Rows

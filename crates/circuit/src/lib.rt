@@ -1,0 +1,13 @@
+// Circuits: refusals, the board interface, and what is proved of hits and cells.
+mod board;
+pub mod laws;
+mod refusal;
+
+pub use board::Board;
+pub use board::RefIsBoard;
+pub use refusal::Reason;
+pub use refusal::ReasonDebug;
+pub use refusal::ReasonPartialEq;
+pub use refusal::Refusal;
+pub use refusal::RefusalDebug;
+pub use refusal::RefusalPartialEq;
