@@ -1,0 +1,4 @@
+pub mod Whole
+pub mod Faults
+pub mod Drawn
+pub mod Kept
