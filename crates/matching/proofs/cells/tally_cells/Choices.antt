@@ -1,0 +1,14 @@
+use mathlib.Core.Path.{_≡_}
+use Prim.Native.Nat.{_≤_}
+use lib.ListN.{length, take}
+use Rattle.tally.specs.Tallies.{tallied}
+use Rattle.matching.specs.Orders.{cells}
+use Rattle.matching.specs.Keys.{keys}
+use Rattle.matching.proofs.cells.tally_cells.Given as given
+
+abbrev pub Inv-loop-i : given.InvT-loop-i
+Inv-loop-i g l =
+    (l .tally .len ≤ length (l .tally .entries .now))
+    × (l .tally .entries .name ≡ l .entry .tally .entries .name)
+    × (length (l .tally .entries .now) ≡ length (l .entry .tally .entries .now))
+    × (take (l .tally .len) (l .tally .entries .now) ≡ tallied (cells .cmp) (keys (g .C·Board .means (l .c)) (l .start) (l .i)))
