@@ -18,7 +18,7 @@ use Rattle.circuit.proofs.Counting.{count-tied, count-same}
 use Rattle.circuit.proofs.Masks.{length-upto, getD-upto, on-below, net-ascends, net-below}
 use Rattle.circuit.proofs.Rule.{place-maps}
 use Rattle.circuit.proofs.Decided.{cell-rule-decided}
-use Rattle.circuit.proofs.Nets.{net-count}
+use Rattle.circuit.proofs.Nets.{net-size, net-few}
 use Rattle.matching.specs.declared.cell.Cell.{Cell}
 use Rattle.tally.specs.declared.entry.Entry.{Entry}
 use Rattle.tally.specs.Tallies.{counted, tallied}
@@ -29,31 +29,6 @@ use Rattle.matching.specs.Keys.{keys, sizes, SameSizes}
 use Rattle.matching.proofs.Counted.{times-cells, times-zero}
 
 -- ## Sizes
-
-count-few : (P : ℕ → Bool) (n : ℕ) → count P n ≤ n
-count-few P zero = omega arith
-count-few P (suc n) = go (P n) (count-few P n)
-  where
-    go : (t : Bool) → count P n ≤ n → bit t + count P n ≤ suc n
-    go true i = omega arith
-    go false i = omega arith
-
-count-each : (xs : List ℕ) → countBy (λ _. true) xs ≡ length xs
-count-each [] = refl
-count-each (x ∷ xs) = let i = count-each xs in let e = sumBy-cons (λ (_ : ℕ). 1) x xs in omega (arith, e, i)
-
-and-true : (t : Bool) → (t && true) ≡ t
-and-true true = refl
-and-true false = refl
-
-pub net-size : (c : Circuit) → Sound c → (f : ℕ) → length (net c f) ≡ count (λ v. on c v f) (parts c)
-net-size c sound f =
-    sym (count-each (net c f))
-    ∙ sym (net-count (λ _. true) (parts c) (net c f) (net-ascends c sound f) (net-below c sound f))
-    ∙ count-same (λ v. on c v f && true) (λ v. on c v f) (parts c) (λ v _. and-true (on c v f))
-
-pub net-few : (c : Circuit) → Sound c → (f : ℕ) → length (net c f) ≤ parts c
-net-few c sound f = let e = net-size c sound f in let l = count-few (λ v. on c v f) (parts c) in omega arith
 
 pub sizes-few : (c : Circuit) → Sound c → (s : List ℕ) (n : ℕ) → parts c ≤ 64 → sizes c s n ≤ 64 * n
 sizes-few c sound s zero h = omega arith
