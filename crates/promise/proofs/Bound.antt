@@ -16,12 +16,12 @@ use Rattle.promise.specs.Search.{Rules, Start, tried, after, opening}
 use Rattle.promise.proofs.Steps.{Valid, tried-valid, tried-past}
 
 -- the start as a number of d digits in base N + 1, where a digit of 0 stands for none
-value : ℕ → ℕ → List ℕ → ℕ
+unfoldable pub value : ℕ → ℕ → List ℕ → ℕ
 value N d [] = 0
 value N zero (x ∷ xs) = 0
 value N (suc d) (x ∷ xs) = suc x * (N + 1) ^ d + value N d xs
 
-value-below : (N d : ℕ) (s : List ℕ) → AllBelow N s → length s ≤ d → value N d s < (N + 1) ^ d
+pub value-below : (N d : ℕ) (s : List ℕ) → AllBelow N s → length s ≤ d → value N d s < (N + 1) ^ d
 unfolding value
 value-below N d [] b l = one-le-pow d (N + 1) (omega arith)
 value-below N zero (x ∷ xs) b l = absurd (omega arith)
@@ -52,7 +52,7 @@ value-less N (suc d) (x ∷ xs) (y ∷ ys) bs bt ls lt (inr e) =
     omega arith
 
 module _ (R : Rules) where
-  worth : Mark → ℕ
+  unfoldable pub worth : Mark → ℕ
   worth (at s) = value (R .N) (R .m) s
   worth end = (R .N + 1) ^ R .m
 
@@ -66,7 +66,7 @@ module _ (R : Rules) where
   after-end zero = refl
   after-end (suc t) = after-end t
 
-  climbs : (t : ℕ) (k : Mark) → Valid R k → (after R t k ≡ end) ⊎ ((s : List ℕ) × (after R t k ≡ at s) × Start R s × (t + worth k ≤ worth (at s)))
+  pub climbs : (t : ℕ) (k : Mark) → Valid R k → (after R t k ≡ end) ⊎ ((s : List ℕ) × (after R t k ≡ at s) × Start R s × (t + worth k ≤ worth (at s)))
   unfolding worth
   climbs zero (at s) v = inr (s, refl, v, omega arith)
   climbs zero end v = inl refl
@@ -81,7 +81,7 @@ module _ (R : Rules) where
       go (inr c) = inr (c .0, c .1, c .2, omega (arith, c .3, up))
   climbs (suc t) end v = inl (after-end t)
 
-  opening-valid : 1 ≤ R .m → Valid R (opening R)
+  pub opening-valid : 1 ≤ R .m → Valid R (opening R)
   opening-valid h =
       cond-both (ltb 0 (R .N)) _ _ (Valid R) (λ e. record { some = omega arith; few = h; below = (ltb-true 0 (R .N) e, tt) }) (λ e. tt)
 

@@ -171,7 +171,7 @@ module _ (R : Rules) where
   finishes k b row (paused n) k′ row′ x acc = (λ f. absurd f, λ g. x .4 (g .0))
   finishes k b row (refused n place) k′ row′ x acc = absurd acc
 
-  stands-next : (k : Mark) (b : ℕ) (row : List ℕ) (a : Answer) (k′ : Mark) (row′ : List ℕ) → Next R k b row a k′ row′ → k′ ≡ after R (tries a) k
+  pub stands-next : (k : Mark) (b : ℕ) (row : List ℕ) (a : Answer) (k′ : Mark) (row′ : List ℕ) → Next R k b row a k′ row′ → k′ ≡ after R (tries a) k
   stands-next k b row (hit n) k′ row′ x =
       let c = x .2 in
       let j = c .0 in

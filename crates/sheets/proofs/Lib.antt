@@ -1,0 +1,13 @@
+pub mod Cuts
+pub mod Digits
+pub mod Judged
+pub mod Wholes
+pub mod Ends
+pub mod Back
+pub mod Firsts
+pub mod Only
+pub mod Least
+pub mod Exact
+pub mod LeastParts
+pub mod Pieces
+pub mod LeastRails

@@ -1,0 +1,30 @@
+// Sheets: lines of fields, read into rows or one fault.
+mod entry;
+mod fault;
+pub mod laws;
+mod load;
+mod nets;
+mod numbers;
+mod reader;
+mod rows;
+
+pub use entry::Rail;
+pub use entry::RailDebug;
+pub use entry::RailPartialEq;
+pub use fault::Fault;
+pub use fault::FaultDebug;
+pub use fault::FaultPartialEq;
+pub use fault::File;
+pub use fault::FileDebug;
+pub use fault::FilePartialEq;
+pub use fault::Layer;
+pub use fault::LayerDebug;
+pub use fault::LayerPartialEq;
+pub use fault::Trouble;
+pub use fault::TroubleDebug;
+pub use fault::TroublePartialEq;
+pub use load::fault_in;
+pub use load::load_nets;
+pub use load::load_parts;
+pub use load::load_rails;
+pub use nets::NetTables;
