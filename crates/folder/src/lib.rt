@@ -15,6 +15,7 @@ use std::io::Read;
 const MOST_BYTES: u64 = 65_537;
 
 // Writes each line to standard output as it comes.
+#[derive(Drop)]
 struct Printer<'a> {
     rt: &'a LibcRuntime,
 }

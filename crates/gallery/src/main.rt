@@ -1,5 +1,6 @@
 // Lists the findings of the examples, one after another, as `findings` does for one.
 use folder::list_folder;
+use listing::OutcomeDebug;
 use std::error::AnyError;
 
 fn show(rt: &LibcRuntime, folder: &str) -> Result<(), AnyError> {
