@@ -26,7 +26,10 @@ impl<B: Board> Blanking<B> {
         ensures marks { λ r. ⌜ r .marks ≡ replicate 4096 false ⌝ }
         ensures fresh { λ r. ⌜ blank (r .marks) (B·Board .means (r .board)) ≡ B·Board .means board ⌝ }
     {
-        Blanking { board, marks: [false; 4096] }
+        Blanking {
+            board,
+            marks: [false; 4096],
+        }
     }
 
     fn is_blank(&self, f: u16) -> bool
@@ -45,7 +48,10 @@ impl<B: Board> Blanking<B> {
             self.marks[f as usize] = true;
             Ok(())
         } else {
-            Err(Refusal { reason: Reason::NetOffBoard, place: f as usize })
+            Err(Refusal {
+                reason: Reason::NetOffBoard,
+                place: f as usize,
+            })
         }
     }
 
@@ -59,7 +65,10 @@ impl<B: Board> Blanking<B> {
             self.marks[f as usize] = false;
             Ok(())
         } else {
-            Err(Refusal { reason: Reason::NetOffBoard, place: f as usize })
+            Err(Refusal {
+                reason: Reason::NetOffBoard,
+                place: f as usize,
+            })
         }
     }
 }
@@ -84,11 +93,19 @@ pub impl<B: Board> Board for Blanking<B> as BlankingIsBoard {
     }
 
     fn size(&self, f: u16) -> u16 {
-        if self.is_blank(f) { 0 } else { self.board.size(f) }
+        if self.is_blank(f) {
+            0
+        } else {
+            self.board.size(f)
+        }
     }
 
     fn part(&self, f: u16, k: u16) -> Option<u16> {
-        if self.is_blank(f) { None } else { self.board.part(f, k) }
+        if self.is_blank(f) {
+            None
+        } else {
+            self.board.part(f, k)
+        }
     }
 
     fn on(&self, v: u16, f: u16) -> bool {

@@ -39,8 +39,14 @@ fn refusal_of(misfit: Misfit) -> Refusal
     ensures { λ r. ⌜ r ≡ by-misfit misfit ⌝ }
 {
     match misfit {
-        Misfit::End(net) => Refusal { reason: Reason::BoardEnd, place: net },
-        Misfit::Join(join) => Refusal { reason: Reason::BoardPartOrder, place: join },
+        Misfit::End(net) => Refusal {
+            reason: Reason::BoardEnd,
+            place: net,
+        },
+        Misfit::Join(join) => Refusal {
+            reason: Reason::BoardPartOrder,
+            place: join,
+        },
     }
 }
 
@@ -49,7 +55,10 @@ pub fn check(classes: &[u16], ends: &[u16], joins: &[u16]) -> Result<(), Refusal
     ensures { λ r. ⌜ Cases r (λ _. Good (now (classes .entry)) (now (ends .entry)) (now (joins .entry))) (λ e. Refused (now (classes .entry)) (now (ends .entry)) (now (joins .entry)) (e .reason) (e .place)) ⌝ }
 {
     if classes.len() > 4096 || ends.len() > 4096 || joins.len() > 16384 {
-        return Err(Refusal { reason: Reason::BoardLimit, place: 0 });
+        return Err(Refusal {
+            reason: Reason::BoardLimit,
+            place: 0,
+        });
     }
     match first_misfit(classes.len(), 0, ends, joins) {
         Some(misfit) => Err(refusal_of(misfit)),
@@ -64,8 +73,16 @@ impl<'a> FlatBoard<'a> {
         ensures bad { λ r. ⌜ ((Good (now (classes .entry)) (now (ends .entry)) (now (joins .entry)) → ⊥) → (now (r .classes) ≡ []) × (now (r .ends) ≡ []) × (now (r .joins) ≡ [])) ⌝ }
     {
         match check(classes, ends, joins) {
-            Ok(()) => FlatBoard { classes, ends, joins },
-            Err(_) => FlatBoard { classes: &[], ends: &[], joins: &[] },
+            Ok(()) => FlatBoard {
+                classes,
+                ends,
+                joins,
+            },
+            Err(_) => FlatBoard {
+                classes: &[],
+                ends: &[],
+                joins: &[],
+            },
         }
     }
 

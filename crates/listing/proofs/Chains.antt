@@ -45,14 +45,20 @@ module _ {S : Type 0} (w : S → List ℕ → S → Type 0) where
     SoFar a k o = (h : List (List ℕ)) × (t : ℕ) × Run (rulesOf p b keeps) k h t × Writes w a (map hit-line h) o
 
     pub found-more : (a o o′ : S) (k k′ : Mark) → SoFar a k o → (n : ℕ) (row : List ℕ) → Asked (rulesOf p b keeps) k (hit n) k′ row → w o (hit-line (take (N p) row)) o′ → SoFar a k′ o′
-    found-more a o o′ k k′ (h, t, run, ws) n row asked x =
-        (h ++ take (N p) row ∷ [], t + n, call 1_000_000 (asked .row) (hit n) k′ row run (asked .next),
-          subst (λ (ls : List (List ℕ)). Writes w a ls o′) (sym (map-push hit-line h (take (N p) row))) (writes-push a o o′ (map hit-line h) (hit-line (take (N p) row)) ws x))
+    found-more a o o′ k k′ (h, t, run, ws) n row asked x = (
+      h ++ take (N p) row ∷ [],
+      t + n,
+      call 1_000_000 (asked .row) (hit n) k′ row run (asked .next),
+      subst (λ (ls : List (List ℕ)). Writes w a ls o′) (sym (map-push hit-line h (take (N p) row))) (writes-push a o o′ (map hit-line h) (hit-line (take (N p) row)) ws x),
+    )
 
     pub rested-more : (a o o′ : S) (k k′ : Mark) → SoFar a k o → (n : ℕ) (row : List ℕ) → Asked (rulesOf p b keeps) k (paused n) k′ row → o ≡ o′ → SoFar a k′ o′
-    rested-more a o o′ k k′ (h, t, run, ws) n row asked e =
-        (h ++ [], t + n, call 1_000_000 (asked .row) (paused n) k′ row run (asked .next),
-          subst (λ (ls : List (List ℕ)). Writes w a (map hit-line ls) o′) (sym (append-nil h)) (subst (Writes w a (map hit-line h)) e ws))
+    rested-more a o o′ k k′ (h, t, run, ws) n row asked e = (
+      h ++ [],
+      t + n,
+      call 1_000_000 (asked .row) (paused n) k′ row run (asked .next),
+      subst (λ (ls : List (List ℕ)). Writes w a (map hit-line ls) o′) (sym (append-nil h)) (subst (Writes w a (map hit-line h)) e ws),
+    )
 
     -- each call that does not finish leaves fewer tries
     pub found-falls : 1 ≤ N p → (a o : S) (k k′ : Mark) → SoFar a k o → (n : ℕ) (row : List ℕ) → Asked (rulesOf p b keeps) k (hit n) k′ row → left (rulesOf p b keeps) k′ < left (rulesOf p b keeps) k

@@ -11,10 +11,17 @@ ghost use Rattle.pattern.specs.Drawn.{drawn};
 ghost use Rattle.search.specs.Held.{bookmark, said};
 ghost use Rattle.lines.specs.Written.{hit-line};
 ghost use Rattle.listing.specs.Listed.{Asked, Stepped, Hits-listed};
-use circuit::Board;
+use super::loading::Sheets;
+use super::loading::prepare;
+use super::output::Halt;
+use super::output::Sink;
+use super::output::put;
+use super::step::Outcome;
+use super::step::Step;
 use boards::Blanking;
 use boards::BlankingIsBoard;
 use boards::FlatIsBoard;
+use circuit::Board;
 use lines::end_line;
 use lines::fault_line;
 use lines::hit_line;
@@ -29,13 +36,6 @@ use sieves::TableIsSieve;
 use sieves::TableSieve;
 use std::alloc::AllocError;
 use std::alloc::Global;
-use super::loading::Sheets;
-use super::loading::prepare;
-use super::output::Halt;
-use super::output::Sink;
-use super::output::put;
-use super::step::Outcome;
-use super::step::Step;
 
 // The tries of one call of next.
 const FULL_BUDGET: u32 = 1_000_000;
@@ -44,7 +44,13 @@ const FULL_BUDGET: u32 = 1_000_000;
 const MOST_PAUSES: u16 = 1_000;
 
 // One call of next with the full budget; with that and a row of sixteen it never refuses.
-fn ask<B: Board, S: Sieve<B>>(search: &mut Search, pattern: &Pattern, board: &B, sieve: &S, row: &mut [u16]) -> Answer
+fn ask<B: Board, S: Sieve<B>>(
+    search: &mut Search,
+    pattern: &Pattern,
+    board: &B,
+    sieve: &S,
+    row: &mut [u16],
+) -> Answer
     requires { ⌜ 16 ≤ length (now row) ⌝ }
     ensures { λ r. ⌜ Asked (rulesOf (drawn (now (pattern .entry))) (B·Board .means (now (board .entry))) (S·Sieve .keeps (now (sieve .entry)) (drawn (now (pattern .entry))) (B·Board .means (now (board .entry))))) (bookmark (length (drawn (now (pattern .entry)) .nets)) (length (B·Board .means (now (board .entry)) .nets)) (now (search .entry))) (said (Ok r)) (bookmark (length (drawn (now (pattern .entry)) .nets)) (length (B·Board .means (now (board .entry)) .nets)) (now (search .exit))) (now (row .exit)) ⌝ }
 {
@@ -55,7 +61,12 @@ fn ask<B: Board, S: Sieve<B>>(search: &mut Search, pattern: &Pattern, board: &B,
 }
 
 // Writes the hit that a row holds.
-fn put_hit<W: Sink>(heap: Global, pattern: &Pattern, row: &[u16], out: &mut W) -> Result<(), Halt<W::Error>>
+fn put_hit<W: Sink>(
+    heap: Global,
+    pattern: &Pattern,
+    row: &[u16],
+    out: &mut W,
+) -> Result<(), Halt<W::Error>>
     requires { ⌜ 16 ≤ length (now row) ⌝ }
     ensures { λ r. ⌜ made r (λ _. W·Sink .writes (now (out .entry)) (hit-line (take (length (drawn (now (pattern .entry)) .nets)) (now (row .entry)))) (now (out .exit))) ⌝ }
 {
@@ -64,7 +75,14 @@ fn put_hit<W: Sink>(heap: Global, pattern: &Pattern, row: &[u16], out: &mut W) -
 }
 
 // Makes one call of next, and writes the hit that it found.
-fn next_line<B: Board, S: Sieve<B>, W: Sink>(heap: Global, search: &mut Search, pattern: &Pattern, board: &B, sieve: &S, out: &mut W) -> Step<W::Error>
+fn next_line<B: Board, S: Sieve<B>, W: Sink>(
+    heap: Global,
+    search: &mut Search,
+    pattern: &Pattern,
+    board: &B,
+    sieve: &S,
+    out: &mut W,
+) -> Step<W::Error>
     ensures { λ r. ⌜ Stepped (W·Sink .writes) (rulesOf (drawn (now (pattern .entry))) (B·Board .means (now (board .entry))) (S·Sieve .keeps (now (sieve .entry)) (drawn (now (pattern .entry))) (B·Board .means (now (board .entry))))) (bookmark (length (drawn (now (pattern .entry)) .nets)) (length (B·Board .means (now (board .entry)) .nets)) (now (search .entry))) (now (out .entry)) r (bookmark (length (drawn (now (pattern .entry)) .nets)) (length (B·Board .means (now (board .entry)) .nets)) (now (search .exit))) (now (out .exit)) ⌝ }
 {
     let mut row = [0u16; 16];
@@ -79,7 +97,11 @@ fn next_line<B: Board, S: Sieve<B>, W: Sink>(heap: Global, search: &mut Search, 
 }
 
 // Writes the last line of a list.
-fn put_last<W: Sink>(out: &mut W, line: Result<String, AllocError>, outcome: Outcome) -> Result<Outcome, Halt<W::Error>>
+fn put_last<W: Sink>(
+    out: &mut W,
+    line: Result<String, AllocError>,
+    outcome: Outcome,
+) -> Result<Outcome, Halt<W::Error>>
     ensures { λ r. ⌜ made r (λ o. (o ≡ outcome) × Cases line (λ s. W·Sink .writes (now (out .entry)) (string-bytes s) (now (out .exit))) (λ _. ⊥)) ⌝ }
 {
     match put(out, line) {
@@ -89,7 +111,12 @@ fn put_last<W: Sink>(out: &mut W, line: Result<String, AllocError>, outcome: Out
 }
 
 // Writes a line for each hit, and how the search ended.
-pub fn list_hits<B: Board, W: Sink>(heap: Global, pattern: &Pattern, board: &B, out: &mut W) -> Result<Outcome, Halt<W::Error>>
+pub fn list_hits<B: Board, W: Sink>(
+    heap: Global,
+    pattern: &Pattern,
+    board: &B,
+    out: &mut W,
+) -> Result<Outcome, Halt<W::Error>>
     ensures { λ r. ⌜ made r (λ o. Hits-listed (W·Sink .writes) (drawn (now (pattern .entry))) (B·Board .means (now (board .entry))) (now (out .entry)) o (now (out .exit))) ⌝ }
 {
     let mut sieve = TableSieve::fresh();
@@ -111,7 +138,11 @@ pub fn list_hits<B: Board, W: Sink>(heap: Global, pattern: &Pattern, board: &B, 
 }
 
 // A fault is the list's only line.
-fn list_fault<W: Sink>(heap: Global, trouble: Trouble, out: &mut W) -> Result<Outcome, Halt<W::Error>> {
+fn list_fault<W: Sink>(
+    heap: Global,
+    trouble: Trouble,
+    out: &mut W,
+) -> Result<Outcome, Halt<W::Error>> {
     match trouble {
         Trouble::Faulty(fault) => {
             put(out, fault_line(heap, fault))?;
@@ -122,7 +153,11 @@ fn list_fault<W: Sink>(heap: Global, trouble: Trouble, out: &mut W) -> Result<Ou
 }
 
 // Writes the list of the five sheets: each line as soon as it is known.
-pub fn list<W: Sink>(heap: Global, sheets: &Sheets<'_>, out: &mut W) -> Result<Outcome, Halt<W::Error>> {
+pub fn list<W: Sink>(
+    heap: Global,
+    sheets: &Sheets<'_>,
+    out: &mut W,
+) -> Result<Outcome, Halt<W::Error>> {
     let circuits = match prepare(heap, sheets) {
         Ok(circuits) => circuits,
         Err(trouble) => return list_fault(heap, trouble, out),

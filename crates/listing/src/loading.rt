@@ -72,8 +72,16 @@ fn zeros(heap: Global, n: usize) -> Result<Vec<u16>, Trouble> {
 fn label(heap: Global, pattern: &[Measured], board: &[Measured]) -> Result<Classes, Trouble> {
     let mut pattern_classes = zeros(heap, pattern.len())?;
     let mut board_classes = zeros(heap, board.len())?;
-    match label_parts(pattern, board, pattern_classes.as_mut_slice(), board_classes.as_mut_slice()) {
-        Ok(()) => Ok(Classes { pattern: pattern_classes, board: board_classes }),
+    match label_parts(
+        pattern,
+        board,
+        pattern_classes.as_mut_slice(),
+        board_classes.as_mut_slice(),
+    ) {
+        Ok(()) => Ok(Classes {
+            pattern: pattern_classes,
+            board: board_classes,
+        }),
         Err(refusal) => Err(below(side_of(refusal, pattern.len()), refusal)),
     }
 }
@@ -87,14 +95,27 @@ pub fn prepare(heap: Global, sheets: &Sheets<'_>) -> Result<Circuits, Trouble> {
     let rails = load_rails(heap, sheets.board_rails)?;
     let labelled = label(heap, pattern_labels.as_slice(), board_labels.as_slice())?;
     let mut pattern = Pattern::smallest();
-    if let Err(refusal) = pattern.make(labelled.pattern.as_slice(), pattern_nets.ends.as_slice(), pattern_nets.joins.as_slice()) {
+    if let Err(refusal) = pattern.make(
+        labelled.pattern.as_slice(),
+        pattern_nets.ends.as_slice(),
+        pattern_nets.joins.as_slice(),
+    ) {
         return Err(below(File::PatternJoins, refusal));
     }
     let classes = labelled.board;
-    if let Err(refusal) = check(classes.as_slice(), nets.ends.as_slice(), nets.joins.as_slice()) {
+    if let Err(refusal) = check(
+        classes.as_slice(),
+        nets.ends.as_slice(),
+        nets.joins.as_slice(),
+    ) {
         return Err(below(File::BoardJoins, refusal));
     }
-    Ok(Circuits { pattern, classes, nets, rails })
+    Ok(Circuits {
+        pattern,
+        classes,
+        nets,
+        rails,
+    })
 }
 
 impl Circuits {
@@ -106,7 +127,11 @@ impl Circuits {
 
     // The board of the tables, with every net shown.
     pub fn board(&self) -> FlatBoard<'_> {
-        FlatBoard::make(self.classes.as_slice(), self.nets.ends.as_slice(), self.nets.joins.as_slice())
+        FlatBoard::make(
+            self.classes.as_slice(),
+            self.nets.ends.as_slice(),
+            self.nets.joins.as_slice(),
+        )
     }
 
     // Blanks the rails' nets, or answers the fault of the first rail that is not on the board.

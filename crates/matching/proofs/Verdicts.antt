@@ -30,11 +30,11 @@ module _ (p b : Circuit) (t : List ℕ) (room bytes : ℕ) (long : length t ≡ 
       length t ≤ past (N b) t → parts p ≤ room → parts b ≤ bytes → (distinct? t && cell-rule? p (N p) b t) ≡ true → Ok Map ≡ verdict p b t room bytes
   verdict-hit h k l q =
       sym (
-        cond-true _ _ _ (eq-eqb (length t) (N p) long)
-        ∙ cond-false _ _ _ (le-ltb (past (N b) t) (length t) h)
-        ∙ cond-false _ _ _ (le-ltb room (parts p) k)
-        ∙ cond-false _ _ _ (le-ltb bytes (parts b) l)
-        ∙ ap (λ (x : Bool). Ok (cond x Map NoHit)) hit
+      cond-true _ _ _ (eq-eqb (length t) (N p) long)
+      ∙ cond-false _ _ _ (le-ltb (past (N b) t) (length t) h)
+      ∙ cond-false _ _ _ (le-ltb room (parts p) k)
+      ∙ cond-false _ _ _ (le-ltb bytes (parts b) l)
+      ∙ ap (λ (x : Bool). Ok (cond x Map NoHit)) hit
       )
     where
       hit : hit? p b t ≡ true

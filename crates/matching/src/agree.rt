@@ -5,10 +5,10 @@ ghost use lib.ListN.{length, getD};
 ghost use Rattle.std.specs.Orderings.{Decides};
 ghost use Rattle.circuit.specs.Circuit.{net, cell-rule?, upto};
 ghost use Rattle.matching.specs.Keys.{SameSizes};
-use circuit::Board;
-use super::cells::tally_cells;
 use super::cell::Cell;
 use super::cell::CellOrd;
+use super::cells::tally_cells;
+use circuit::Board;
 use tally::Entry;
 use tally::agree;
 
@@ -36,7 +36,13 @@ fn same_sizes<P: Board, B: Board>(p: &P, b: &B, start: &[u16]) -> bool
 }
 
 // Whether as many pattern parts as board parts have each cell, over the pattern's first nets and the start's.
-pub(super) fn cells_agree<P: Board, B: Board>(p: &P, b: &B, start: &[u16], pattern_room: &mut [Entry<Cell>], board_room: &mut [Entry<Cell>]) -> bool
+pub(super) fn cells_agree<P: Board, B: Board>(
+    p: &P,
+    b: &B,
+    start: &[u16],
+    pattern_room: &mut [Entry<Cell>],
+    board_room: &mut [Entry<Cell>],
+) -> bool
     requires short { ⌜ length (now start) ≤ 16 ⌝ }
     requires few { ⌜ length (P·Board .means (now p) .classes) ≤ 64 ⌝ }
     requires pattern_room { ⌜ 1024 ≤ length (now «pattern_room») ⌝ }

@@ -9,9 +9,9 @@ ghost use Rattle.circuit.specs.Circuit.{net, class, mask};
 ghost use Rattle.tally.specs.Tallies.{tallied, added, answer};
 ghost use Rattle.matching.specs.Orders.{cells as by-cell};
 ghost use Rattle.matching.specs.Keys.{keys, sizes};
-use circuit::Board;
 use super::cell::Cell;
 use super::cell::CellOrd;
+use circuit::Board;
 use tally::Entry;
 use tally::Tally;
 
@@ -78,7 +78,13 @@ fn add_net<C: Board>(c: &C, start: &[u16], i: usize, tally: &mut Tally<'_, Cell>
         let v = part_at(c, f, k);
         let mask = mask_of(c, start, v);
         if mask & earlier == 0 {
-            put(tally, Cell { class: class_at(c, v), mask });
+            put(
+                tally,
+                Cell {
+                    class: class_at(c, v),
+                    mask,
+                },
+            );
         }
     }
 }

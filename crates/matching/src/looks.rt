@@ -4,10 +4,10 @@ ghost use Prim.Native.Nat.{ℕ, _<_, _≤_};
 ghost use lib.ListN.{length, getD};
 ghost use Rattle.circuit.specs.Circuit.{distinct?, in-cell};
 ghost use Rattle.matching.specs.Mapped.{past};
-use circuit::Board;
-use tables::holds;
 use super::cells::class_at;
 use super::cells::mask_of;
+use circuit::Board;
+use tables::holds;
 
 // Whether no number comes twice.
 pub fn differ(tuple: &[u16]) -> bool

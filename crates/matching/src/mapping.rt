@@ -9,11 +9,6 @@ ghost use Rattle.std.specs.declared.result.Result.the-variants.{Ok, Err};
 ghost use Rattle.circuit.specs.Circuit.{cell-rule?, distinct?};
 ghost use Rattle.pattern.specs.Drawn.{drawn};
 ghost use Rattle.matching.specs.Mapped.{verdict, is-map, mapped};
-use circuit::Board;
-use circuit::Reason;
-use circuit::Refusal;
-use pattern::Pattern;
-use pattern::PatternIsBoard;
 use super::agree::order;
 use super::answer::MapAnswer;
 use super::cells::class_at;
@@ -22,9 +17,20 @@ use super::looks::differ;
 use super::looks::first_past;
 use super::start::CellTest;
 use super::taken::Taken;
+use circuit::Board;
+use circuit::Reason;
+use circuit::Refusal;
+use pattern::Pattern;
+use pattern::PatternIsBoard;
 
 // Gives each pattern part in order the smallest untaken board part of its cell.
-fn place_all<B: Board>(p: &Pattern, b: &B, tuple: &[u16], out: &mut [u16], guard: &mut Taken<'_>) -> Result<(), Refusal>
+fn place_all<B: Board>(
+    p: &Pattern,
+    b: &B,
+    tuple: &[u16],
+    out: &mut [u16],
+    guard: &mut Taken<'_>,
+) -> Result<(), Refusal>
     requires long { ⌜ length (now tuple) ≡ length (drawn (now p) .nets) ⌝ }
     requires rule { ⌜ cell-rule? (drawn (now p)) (length (drawn (now p) .nets)) (B·Board .means (now b)) (now tuple) ≡ true ⌝ }
     requires room { ⌜ length (drawn (now p) .classes) ≤ length (now out) ⌝ }
@@ -39,7 +45,10 @@ fn place_all<B: Board>(p: &Pattern, b: &B, tuple: &[u16], out: &mut [u16], guard
         let class = class_at(p, u);
         let mask = mask_of(p, order(tuple.len()), u);
         let Some(v) = guard.first_free(b, tuple, class, mask) else {
-            return Err(Refusal { reason: Reason::NoPartLeft, place: u as usize });
+            return Err(Refusal {
+                reason: Reason::NoPartLeft,
+                place: u as usize,
+            });
         };
         guard.mark(v as usize);
         out[u as usize] = v;
@@ -57,24 +66,42 @@ fn fits<B: Board>(p: &Pattern, b: &B, tuple: &[u16]) -> bool
 }
 
 // The part map of a tuple that is a hit; the taken-table ends all zeros on every way out.
-pub fn map<B: Board>(p: &Pattern, b: &B, tuple: &[u16], out: &mut [u16], taken: &mut [u8]) -> Result<MapAnswer, Refusal>
+pub fn map<B: Board>(
+    p: &Pattern,
+    b: &B,
+    tuple: &[u16],
+    out: &mut [u16],
+    taken: &mut [u8],
+) -> Result<MapAnswer, Refusal>
     ensures answer { λ r. ⌜ r ≡ verdict (drawn (now (p .entry))) (B·Board .means (now (b .entry))) (now (tuple .entry)) (length (now (out .entry))) (length (now (taken .entry))) ⌝ }
     ensures out { λ r. ⌜ now (out .exit) ≡ cond (is-map r) (mapped (drawn (now (p .entry))) (B·Board .means (now (b .entry))) (now (tuple .entry)) ++ drop (length (drawn (now (p .entry)) .classes)) (now (out .entry))) (now (out .entry)) ⌝ }
     ensures cleared { λ _. ⌜ now (taken .exit) ≡ replicate (length (now (taken .entry))) 0 ⌝ }
 {
     let mut guard = Taken::over(taken);
     if tuple.len() != p.nets() as usize {
-        return Err(Refusal { reason: Reason::TupleLength, place: 0 });
+        return Err(Refusal {
+            reason: Reason::TupleLength,
+            place: 0,
+        });
     }
     let i = first_past(tuple, b.nets());
     if i < tuple.len() {
-        return Err(Refusal { reason: Reason::TupleNet, place: i });
+        return Err(Refusal {
+            reason: Reason::TupleNet,
+            place: i,
+        });
     }
     if out.len() < p.parts() as usize {
-        return Err(Refusal { reason: Reason::ShortOutput, place: 0 });
+        return Err(Refusal {
+            reason: Reason::ShortOutput,
+            place: 0,
+        });
     }
     if guard.len() < b.parts() as usize {
-        return Err(Refusal { reason: Reason::ShortTaken, place: 0 });
+        return Err(Refusal {
+            reason: Reason::ShortTaken,
+            place: 0,
+        });
     }
     if !fits(p, b, tuple) {
         return Ok(MapAnswer::NoHit);

@@ -7,11 +7,11 @@ ghost use lib.ListN.{length};
 ghost use Rattle.std.specs.Orderings.{Decides};
 ghost use Rattle.circuit.specs.Circuit.{cell-rule?, AllBelow, Distinct, HitBy, same-class};
 ghost use Rattle.pattern.specs.Drawn.{drawn};
+use super::agree::cells_agree;
+use super::cell::Cell;
 use circuit::Board;
 use pattern::Pattern;
 use pattern::PatternIsBoard;
-use super::agree::cells_agree;
-use super::cell::Cell;
 use tally::Entry;
 
 // Room for the cells of both sides: at most 16 nets of at most 64 parts each.
@@ -25,8 +25,14 @@ pub struct CellTest {
 
 impl CellTest {
     pub fn new() -> CellTest {
-        let none = Entry { key: Cell { class: 0, mask: 0 }, count: 0 };
-        CellTest { pattern_room: [none; 1024], board_room: [none; 1024] }
+        let none = Entry {
+            key: Cell { class: 0, mask: 0 },
+            count: 0,
+        };
+        CellTest {
+            pattern_room: [none; 1024],
+            board_room: [none; 1024],
+        }
     }
 
     // Whether the start meets the cell rule; one longer than the pattern does not.

@@ -6,8 +6,8 @@ ghost use lib.Dec.{eqb};
 ghost use lib.ListN.{length, getD, set, replicate};
 ghost use denote.Ref.{name};
 ghost use Rattle.circuit.specs.Circuit.{in-cell, first};
-use circuit::Board;
 use super::looks::in_cell;
+use circuit::Board;
 
 pub(super) struct Taken<'a> {
     bytes: &'a mut [u8],
@@ -47,7 +47,13 @@ impl<'a> Taken<'a> {
     }
 
     // The smallest untaken part of the cell.
-    pub(super) fn first_free<B: Board>(&self, b: &B, start: &[u16], class: u16, mask: u16) -> Option<u16>
+    pub(super) fn first_free<B: Board>(
+        &self,
+        b: &B,
+        start: &[u16],
+        class: u16,
+        mask: u16,
+    ) -> Option<u16>
         requires short { ⌜ length (now start) ≤ 16 ⌝ }
         requires room { ⌜ length (B·Board .means (now b) .classes) ≤ length (now (now self .bytes)) ⌝ }
         ensures { λ r. ⌜ r ≡ first (λ v. eqb (getD (now (now (self .entry) .bytes)) v 0) 0 && in-cell (B·Board .means (now (b .entry))) (now (start .entry)) class mask v) (length (B·Board .means (now (b .entry)) .classes)) ⌝ }

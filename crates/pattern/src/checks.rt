@@ -31,8 +31,14 @@ fn refusal_of(misfit: Misfit) -> Refusal
     ensures { λ r. ⌜ r ≡ by-misfit misfit ⌝ }
 {
     match misfit {
-        Misfit::End(net) => Refusal { reason: Reason::NetEnd, place: net },
-        Misfit::Join(join) => Refusal { reason: Reason::PartOrder, place: join },
+        Misfit::End(net) => Refusal {
+            reason: Reason::NetEnd,
+            place: net,
+        },
+        Misfit::Join(join) => Refusal {
+            reason: Reason::PartOrder,
+            place: join,
+        },
     }
 }
 
@@ -41,17 +47,26 @@ pub fn check(classes: &[u16], ends: &[u16], joins: &[u16]) -> Result<(), Refusal
     ensures { λ r. ⌜ Cases r (λ _. Good (now (classes .entry)) (now (ends .entry)) (now (joins .entry))) (λ e. Refused (now (classes .entry)) (now (ends .entry)) (now (joins .entry)) (e .reason) (e .place)) ⌝ }
 {
     if ends.len() == 0 || ends.len() > 16 {
-        return Err(Refusal { reason: Reason::NetCount, place: 0 });
+        return Err(Refusal {
+            reason: Reason::NetCount,
+            place: 0,
+        });
     }
     if classes.len() == 0 || classes.len() > 64 {
-        return Err(Refusal { reason: Reason::PartCount, place: 0 });
+        return Err(Refusal {
+            reason: Reason::PartCount,
+            place: 0,
+        });
     }
     if let Some(misfit) = first_misfit(classes.len(), 1, ends, joins) {
         return Err(refusal_of(misfit));
     }
     let v = first_loose(classes.len() as u16, joins) as usize;
     if v < classes.len() {
-        return Err(Refusal { reason: Reason::LoosePart, place: v });
+        return Err(Refusal {
+            reason: Reason::LoosePart,
+            place: v,
+        });
     }
     Ok(())
 }

@@ -5,8 +5,8 @@ ghost use lib.ListN.{length, take};
 ghost use Rattle.tables.specs.Tables.{Spans, Closes, Climbs, Below};
 ghost use Rattle.pattern.specs.Whole.{Covers};
 
-pub mod make;
 pub mod board;
+pub mod make;
 
 #[derive(Drop)]
 pub struct Pattern {

@@ -32,10 +32,10 @@ module _ (R : Rules) where
       ⊎-elim
       (λ q. let z = at-end in let w : (R .N + 1) ^ R .m - worth R end < (R .N + 1) ^ R .m - worth R (at s) = omega arith in subst T (sym (e ∙ q)) w)
       (λ q.
-          let up : n + worth R (at s) ≤ worth R (at (q .0)) = q .3 in
-          let under = below-all (q .0) (q .2) in
-          let w : (R .N + 1) ^ R .m - worth R (at (q .0)) < (R .N + 1) ^ R .m - worth R (at s) = omega arith in
-          subst T (sym (e ∙ q .1)) w)
+      let up : n + worth R (at s) ≤ worth R (at (q .0)) = q .3 in
+      let under = below-all (q .0) (q .2) in
+      let w : (R .N + 1) ^ R .m - worth R (at (q .0)) < (R .N + 1) ^ R .m - worth R (at s) = omega arith in
+      subst T (sym (e ∙ q .1)) w)
       (climbs R n (at s) v)
 
   -- where a run stands is a start or the end

@@ -36,7 +36,13 @@ fn nets_of<B: Board>(board: &B) -> u16
 }
 
 // Whether a start passes: its nets differ, the sieve keeps it and the cell rule holds. The sieve is asked first, since it drops most starts.
-fn passes<B: Board, S: Sieve<B>>(pattern: &Pattern, board: &B, sieve: &S, cells: &mut CellTest, start: &[u16]) -> bool
+fn passes<B: Board, S: Sieve<B>>(
+    pattern: &Pattern,
+    board: &B,
+    sieve: &S,
+    cells: &mut CellTest,
+    start: &[u16],
+) -> bool
     requires { ⌜ length (now start) ≤ length (drawn (now pattern) .nets) ⌝ }
     ensures { λ r. ⌜ r ≡ passing (drawn (now (pattern .entry))) (B·Board .means (now (board .entry))) (S·Sieve .keeps (now (sieve .entry)) (drawn (now (pattern .entry))) (B·Board .means (now (board .entry)))) (now (start .entry)) ⌝ }
 {
@@ -132,11 +138,17 @@ impl Search {
         ensures { λ r. ⌜ Called (drawn (now (pattern .entry))) (B·Board .means (now (board .entry))) (S·Sieve .keeps (now (sieve .entry)) (drawn (now (pattern .entry))) (B·Board .means (now (board .entry)))) (bookmark (length (drawn (now (pattern .entry)) .nets)) (length (B·Board .means (now (board .entry)) .nets)) (now (self .entry))) budget (now (row .entry)) (said r) (bookmark (length (drawn (now (pattern .entry)) .nets)) (length (B·Board .means (now (board .entry)) .nets)) (now (self .exit))) (now (row .exit)) ⌝ }
     {
         if budget < 1 || budget > 1_000_000 {
-            return Err(Refusal { reason: Reason::Budget, place: 0 });
+            return Err(Refusal {
+                reason: Reason::Budget,
+                place: 0,
+            });
         }
         let m = pattern.net_count();
         if row.len() < m as usize {
-            return Err(Refusal { reason: Reason::ShortRow, place: 0 });
+            return Err(Refusal {
+                reason: Reason::ShortRow,
+                place: 0,
+            });
         }
         let nets = nets_of(board);
         if !self.is_start(m, nets) {

@@ -17,6 +17,8 @@ impl TableSieve {
     pub fn fresh() -> TableSieve
         ensures { λ r. ⌜ r .fits ≡ replicate 65536 true ⌝ }
     {
-        TableSieve { fits: [true; 65536] }
+        TableSieve {
+            fits: [true; 65536],
+        }
     }
 }

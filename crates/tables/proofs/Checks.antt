@@ -36,6 +36,5 @@ module _ (n : ℕ) (ends joins : List ℕ) (rises : Rises ends) (closes : Closes
   pub under : Below joins n
   under k h = let r = net-of 0 ends k (omega arith) (omega (arith, closes)) in all (r .0) k (r .1) (r .2) (r .3) .part
 
-
 pub rises-from-spans : (least : ℕ) (ends : List ℕ) → Spans least ends → Rises ends
 rises-from-spans least ends g f h = let q = g f h in omega arith

@@ -18,19 +18,19 @@ pub clipped : (s e : ℕ) (js : List ℕ) → take (min e (length js) - min s (m
 clipped s e js =
     ⊎-elim
     (λ (h : s < e).
-        ⊎-elim
-        (λ (l : s < length js).
-            let from : min s (min e (length js)) ≡ s = omega arith in
-            ap (λ (k : ℕ). take (min e (length js) - k) (drop k js)) from
-            ∙ ⊎-elim
-              (λ (q : e < length js). let to : min e (length js) ≡ e = omega arith in ap (λ (k : ℕ). take (k - s) (drop s js)) to)
-              (λ (q : length js ≤ e).
-                  let d = length-drop s js in
-                  take-all (min e (length js) - s) (drop s js) (omega arith) ∙ sym (take-all (e - s) (drop s js) (omega arith)))
-              (cases-lt e (length js)))
-        (λ (l : length js ≤ s).
-            nothing (min e (length js) - min s (min e (length js))) _ (omega arith)
-            ∙ sym (take-none (e - s) (drop s js) (drop-all s js l)))
-        (cases-lt s (length js)))
+    ⊎-elim
+    (λ (l : s < length js).
+    let from : min s (min e (length js)) ≡ s = omega arith in
+    ap (λ (k : ℕ). take (min e (length js) - k) (drop k js)) from
+    ∙ ⊎-elim
+    (λ (q : e < length js). let to : min e (length js) ≡ e = omega arith in ap (λ (k : ℕ). take (k - s) (drop s js)) to)
+    (λ (q : length js ≤ e).
+    let d = length-drop s js in
+    take-all (min e (length js) - s) (drop s js) (omega arith) ∙ sym (take-all (e - s) (drop s js) (omega arith)))
+    (cases-lt e (length js)))
+    (λ (l : length js ≤ s).
+    nothing (min e (length js) - min s (min e (length js))) _ (omega arith)
+    ∙ sym (take-none (e - s) (drop s js) (drop-all s js l)))
+    (cases-lt s (length js)))
     (λ (h : e ≤ s). nothing (min e (length js) - min s (min e (length js))) _ (omega arith) ∙ sym (nothing (e - s) _ (omega arith)))
     (cases-lt s e)

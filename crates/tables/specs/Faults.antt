@@ -30,7 +30,7 @@ AllFine n ends joins f = (g j : ℕ) → g < f → start ends g ≤ j → j < ge
 abbrev pub WrongEnd : ℕ → List ℕ → List ℕ → ℕ → Type 0
 WrongEnd least ends joins f =
     ((f < length ends) × ((g : ℕ) → g < f → start ends g + least ≤ getD ends g 0) × (getD ends f 0 < start ends f + least))
-  ⊎ ((f ≡ length ends) × Spans least ends × (Closes ends joins → ⊥))
+    ⊎ ((f ≡ length ends) × Spans least ends × (Closes ends joins → ⊥))
 
 abbrev pub Wrong : ℕ → ℕ → List ℕ → List ℕ → Misfit → Type 0
 Wrong n least ends joins (End f) = WrongEnd least ends joins f

@@ -35,11 +35,17 @@ pub fn net_list<'a>(ends: &[u16], joins: &'a [u16], f: u16) -> NetList<'a>
 {
     let f = f as usize;
     if f >= ends.len() {
-        return NetList { place: 0, parts: &joins[0..0] };
+        return NetList {
+            place: 0,
+            parts: &joins[0..0],
+        };
     }
     let to = (ends[f] as usize).min(joins.len());
     let from = start_of(ends, f).min(to);
-    NetList { place: from, parts: &joins[from..to] }
+    NetList {
+        place: from,
+        parts: &joins[from..to],
+    }
 }
 
 pub fn holds(parts: &[u16], v: u16) -> bool

@@ -80,14 +80,20 @@ impl<'a, K: Ord + Copy> Tally<'a, K> {
         match self.find(&key) {
             Ok(at) => {
                 if self.count_at(at) == u16::MAX {
-                    return Err(Refusal { reason: Reason::TallyFull, place: 0 });
+                    return Err(Refusal {
+                        reason: Reason::TallyFull,
+                        place: 0,
+                    });
                 }
                 raise(self.entries, at);
                 Ok(())
             }
             Err(at) => {
                 if self.len >= self.entries.len() {
-                    return Err(Refusal { reason: Reason::TallyFull, place: 0 });
+                    return Err(Refusal {
+                        reason: Reason::TallyFull,
+                        place: 0,
+                    });
                 }
                 let len = self.len;
                 insert(self.entries, len, at, Entry { key, count: 1 });

@@ -4,8 +4,8 @@ ghost use lib.ListN.{length, take};
 ghost use Rattle.circuit.specs.Circuit.{net};
 ghost use Rattle.pattern.specs.Drawn.{drawn};
 ghost use Rattle.pattern.specs.Kept.{drawn-sound, drawn-small};
-use circuit::Board;
 use super::Pattern;
+use circuit::Board;
 use tables::holds;
 use tables::net_list;
 

@@ -7,9 +7,9 @@ ghost use Rattle.tables.specs.Tables.{circuit-of};
 ghost use Rattle.pattern.specs.Whole.{Good};
 ghost use Rattle.pattern.specs.Faults.{Refused};
 ghost use Rattle.pattern.specs.Drawn.{drawn};
-use circuit::Refusal;
-use super::Pattern;
 use super::super::checks::check;
+use super::Pattern;
+use circuit::Refusal;
 
 // The numbers, and zeros behind them.
 fn filled<const N: usize>(xs: &[u16]) -> [u16; N]
@@ -31,7 +31,14 @@ impl Pattern {
     {
         let mut ends = [0; 16];
         ends[0] = 1;
-        Pattern { classes: [0; 64], parts: 1, ends, nets: 1, joins: [0; 1024], total: 1 }
+        Pattern {
+            classes: [0; 64],
+            parts: 1,
+            ends,
+            nets: 1,
+            joins: [0; 1024],
+            total: 1,
+        }
     }
 
     // Fills the pattern from three tables, or says what is wrong with them and leaves it.

@@ -6,11 +6,11 @@ ghost use lib.ListN.{getD, length};
 ghost use Rattle.std.specs.Orderings.{Decides};
 ghost use Rattle.pattern.specs.Drawn.{drawn};
 ghost use Rattle.sieves.specs.Counts.{same-counts?, SameCounts, looked-up, place, last};
-use circuit::Board;
-use pattern::Pattern;
-use super::TableSieve;
 use super::super::Sieve;
 use super::super::counts::same_counts;
+use super::TableSieve;
+use circuit::Board;
+use pattern::Pattern;
 
 impl TableSieve {
     // Notes for each place and each net whether the net fits there.

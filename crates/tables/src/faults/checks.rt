@@ -5,8 +5,8 @@ ghost use lib.ListN.{length, getD};
 ghost use Rattle.std.specs.Options.{Cases as BySome};
 ghost use Rattle.tables.specs.Tables.{start, Rises, Closes};
 ghost use Rattle.tables.specs.Faults.{Fine, Stray, AllFine, Wrong, Fitting};
-use super::Misfit;
 use super::super::lists::start_of;
+use super::Misfit;
 
 // The first net with fewer than `least` parts, or the number of nets.
 fn first_short(least: u16, ends: &[u16]) -> usize

@@ -10,7 +10,7 @@ use Rattle.boards.proofs.flat.check.Needs.{then-classes-gt4096·by·then-class
 pub returns-then-classes-gt4096 : need.returns-then-classes-gt4096
 returns-then-classes-gt4096 c =
     elim (c .then-classes-gt4096 .came) [
-        then-classes-gt4096·by·then-classes-gt4096 w ↦ limit (inl (w .if-classes-gt4096 .taken))
+      | then-classes-gt4096·by·then-classes-gt4096 w ↦ limit (inl (w .if-classes-gt4096 .taken))
       | then-classes-gt4096·by·else-classes-gt4096·then-ends-gt4096 w ↦ limit (inr (inl (w .if-ends-gt4096 .taken)))
       | then-classes-gt4096·by·else-classes-gt4096·else-ends-gt4096·then-joins-gt16384 w ↦ limit (inr (inr (w .if-joins-gt16384 .taken)))
     ]

@@ -35,9 +35,11 @@ pub loop-out-again-in-Found : need.loop-out-again-in-Found
 loop-out-again-in-Found g c =
     let p = drawn (c .args .pattern .now) in
     let b = g .B·Board .means (c .args .board .now) in
-    let (n, row, asked, x) = c .in-Found .ensures tt in
-    (found-more (g .W·Sink .writes) p b (looked-up (c .open-search .last .sieve .fits)) (c .args .out .now) (c .loop-out .out) _
-    (bookmark (N p) (N b) (c .loop-out .search)) (bookmark (N p) (N b) (c .next-line .last .search)) (c .loop-out .inv .0) n row asked x, c .loop-out .inv .1)
+    let (n, row, asked, x) = c .in-Found .ensures tt in (
+      found-more (g .W·Sink .writes) p b (looked-up (c .open-search .last .sieve .fits)) (c .args .out .now) (c .loop-out .out) _
+          (bookmark (N p) (N b) (c .loop-out .search)) (bookmark (N p) (N b) (c .next-line .last .search)) (c .loop-out .inv .0) n row asked x,
+      c .loop-out .inv .1,
+    )
 
 pub returns-in-Done : need.returns-in-Done
 returns-in-Done g c =
@@ -72,6 +74,8 @@ pub loop-out-again : need.loop-out-again
 loop-out-again g c =
     let p = drawn (c .args .pattern .now) in
     let b = g .B·Board .means (c .args .board .now) in
-    let (n, row, asked, e) = c .in-Rested .ensures tt in
-    (rested-more (g .W·Sink .writes) p b (looked-up (c .open-search .last .sieve .fits)) (c .args .out .now) (c .loop-out .out) _
-    (bookmark (N p) (N b) (c .loop-out .search)) (bookmark (N p) (N b) (c .next-line .last .search)) (c .loop-out .inv .0) n row asked e, omega arith)
+    let (n, row, asked, e) = c .in-Rested .ensures tt in (
+      rested-more (g .W·Sink .writes) p b (looked-up (c .open-search .last .sieve .fits)) (c .args .out .now) (c .loop-out .out) _
+          (bookmark (N p) (N b) (c .loop-out .search)) (bookmark (N p) (N b) (c .next-line .last .search)) (c .loop-out .inv .0) n row asked e,
+      omega arith,
+    )

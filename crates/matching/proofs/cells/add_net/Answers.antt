@@ -41,13 +41,13 @@ loop-k-again g c =
     let l : i < 16 = omega arith in
     let inv = c .loop-k .inv in
     let T : Tally Cell → Type 0 = λ t.
-        (t .len ≤ length (t .entries .now))
-        × (t .entries .name ≡ c .args .tally .now .entries .name)
-        × (length (t .entries .now) ≡ length (c .args .tally .now .entries .now))
-        × (take (t .len) (t .entries .now) ≡ tallied (cells .cmp) (so-far m s i (k + 1)))
+    (t .len ≤ length (t .entries .now))
+    × (t .entries .name ≡ c .args .tally .now .entries .name)
+    × (length (t .entries .now) ≡ length (c .args .tally .now .entries .now))
+    × (take (t .len) (t .entries .now) ≡ tallied (cells .cmp) (so-far m s i (k + 1)))
     in
     elim (c .if-mask-earlier-eq0 .came) [
-        then-mask-earlier-eq0 w ↦
+      | then-mask-earlier-eq0 w ↦
           let p = w .put .ensures in
           let t = w .put .last .tally in
           let q : take (t .len) (t .entries .now) ≡ tallied (cells .cmp) (so-far m s i k ++ record { class = w .class-at .result; mask = c .mask-of-mask .result } ∷ []) = tallied-more (so-far m s i k) _ _ _ (inv .3) (p .after) in
@@ -56,8 +56,8 @@ loop-k-again g c =
             p .lender ∙ inv .1,
             p .room ∙ inv .2,
             q
-            ∙ ap (λ (z : Cell). tallied (cells .cmp) (so-far m s i k ++ z ∷ [])) (cell-is m s i _ _ _ (c .mask-of-mask .ensures) (c .part-at-v .ensures) _ (w .class-at .ensures))
-            ∙ ap (tallied (cells .cmp)) (sym (far-more m s i k h (fresh-yes m s i _ _ _ (c .mask-of-mask .ensures) (c .part-at-v .ensures) l (w .if-mask-earlier-eq0 .taken)))),
+                ∙ ap (λ (z : Cell). tallied (cells .cmp) (so-far m s i k ++ z ∷ [])) (cell-is m s i _ _ _ (c .mask-of-mask .ensures) (c .part-at-v .ensures) _ (w .class-at .ensures))
+                ∙ ap (tallied (cells .cmp)) (sym (far-more m s i k h (fresh-yes m s i _ _ _ (c .mask-of-mask .ensures) (c .part-at-v .ensures) l (w .if-mask-earlier-eq0 .taken)))),
           )
       | else-mask-earlier-eq0 w ↦
           subst T (sym (w .tally-is)) (

@@ -51,8 +51,8 @@ returns g c =
     let e : c .first-past-i .result ≡ past (N b) t = c .first-past-i .ensures ∙ ap (λ (n : ℕ). past n t) (c .nets-2 .ensures) in
     record {
       answer = verdict-hit p b t (length (c .args .out .now)) (length (c .args .taken .now)) (c .if-tuple-nets .left ∙ c .nets .ensures)
-        (omega (arith, e, c .if-i-tuple .left)) (omega (arith, c .parts .ensures, c .if-out-parts .left)) (omega (arith, q, c .parts-2 .ensures, c .len .ensures, c .if-len-parts .left))
-        (sym (c .if-not-fits .ensures tt));
+          (omega (arith, e, c .if-i-tuple .left)) (omega (arith, c .parts .ensures, c .if-out-parts .left)) (omega (arith, q, c .parts-2 .ensures, c .len .ensures, c .if-len-parts .left))
+          (sym (c .if-not-fits .ensures tt));
       out = c .place-all .ensures .out;
       cleared = search needs;
     }

@@ -14,15 +14,15 @@ use Rattle.pattern.proofs.checks.check.Needs.{then-ends-eq0·by·then-ends-eq0
 
 pub returns-then-ends-eq0 : need.returns-then-ends-eq0
 returns-then-ends-eq0 c = elim (c .then-ends-eq0 .came) [
-    then-ends-eq0·by·then-ends-eq0 w ↦ net-count (inl (w .if-ends-eq0 .taken))
+  | then-ends-eq0·by·then-ends-eq0 w ↦ net-count (inl (w .if-ends-eq0 .taken))
   | then-ends-eq0·by·else-ends-eq0·then-ends-gt16 w ↦ net-count (inr (w .if-ends-gt16 .taken))
-  ]
+]
 
 pub returns-then-classes-eq0 : need.returns-then-classes-eq0
 returns-then-classes-eq0 c = elim (c .then-classes-eq0 .came) [
-    then-classes-eq0·by·then-classes-eq0 w ↦ part-count (omega arith) (omega arith) (inl (w .if-classes-eq0 .taken))
+  | then-classes-eq0·by·then-classes-eq0 w ↦ part-count (omega arith) (omega arith) (inl (w .if-classes-eq0 .taken))
   | then-classes-eq0·by·else-classes-eq0·then-classes-gt64 w ↦ part-count (omega arith) (omega arith) (inr (w .if-classes-gt64 .taken))
-  ]
+]
 
 pub returns-then-v-classes : need.returns-then-v-classes
 returns-then-v-classes c =

@@ -30,14 +30,13 @@ loop-k-again g c =
     let k = c .loop-k .k in
     let inv = c .loop-k .inv in
     let p = c .put .ensures in
-    let h : k < length (net m f) = omega arith in
-    (
+    let h : k < length (net m f) = omega arith in (
       p .within,
       p .lender ∙ inv .1,
       p .room ∙ inv .2,
       tallied-more (map (class m) (take k (net m f))) (c .class-on .result) _ _ (inv .3) (p .after)
-      ∙ ap (λ (x : ℕ). tallied (unsigned .cmp) (map (class m) (take k (net m f)) ++ x ∷ [])) (c .class-on .ensures)
-      ∙ ap (tallied (unsigned .cmp)) (sym (so-far-more m f k h)),
+          ∙ ap (λ (x : ℕ). tallied (unsigned .cmp) (map (class m) (take k (net m f)) ++ x ∷ [])) (c .class-on .ensures)
+          ∙ ap (tallied (unsigned .cmp)) (sym (so-far-more m f k h)),
     )
 
 pub returns : need.returns

@@ -22,11 +22,11 @@ returns c =
       list = c .net-list .ensures .list (s .classes .now);
       place = c .net-list .ensures .place ∙ ⊎-elim
           (λ (h : f < length es).
-              let t = lt-ltb f (length es) h in
-              let r = s .rises f h in
-              let w = end-within es js f (s .rises) (s .closes) h in
-              let m : min (start es f) (min (getD es f 0) (length js)) ≡ start es f = omega arith in
-              cond-true _ _ _ t ∙ m ∙ sym (cond-true _ _ _ t))
+          let t = lt-ltb f (length es) h in
+          let r = s .rises f h in
+          let w = end-within es js f (s .rises) (s .closes) h in
+          let m : min (start es f) (min (getD es f 0) (length js)) ≡ start es f = omega arith in
+          cond-true _ _ _ t ∙ m ∙ sym (cond-true _ _ _ t))
           (λ (h : length es ≤ f). let t = le-ltb f (length es) h in cond-false _ _ _ t ∙ sym (cond-false _ _ _ t))
           (cases-lt f (length es));
     }

@@ -13,18 +13,18 @@ use Rattle.tables.proofs.faults.checks.first_stray.Needs as need
 
 pub stray-in-k-requires : need.stray-in-k-requires
 stray-in-k-requires c κs = record {
-    rises = let r = c .pre .rises (c .loop-f .f) (c .loop-f-test .taken) in omega (arith, r, c .start-of .ensures);
-    within = end-within (c .args .ends .now) (c .args .joins .now) (c .loop-f .f) (c .pre .rises) (c .pre .closes) (c .loop-f-test .taken);
-  }
+  rises = let r = c .pre .rises (c .loop-f .f) (c .loop-f-test .taken) in omega (arith, r, c .start-of .ensures);
+  within = end-within (c .args .ends .now) (c .args .joins .now) (c .loop-f .f) (c .pre .rises) (c .pre .closes) (c .loop-f-test .taken);
+}
 
 -- the nets up to f, and of net f the joins below k, are fine
 earlier : (n : ℕ) (ends joins : List ℕ) (f k from : ℕ) → Rises ends → f < length ends → from ≡ start ends f → AllFine n ends joins f → ((j : ℕ) → from ≤ j → j < k → Fine n joins from j) → (g j : ℕ) → g ≤ f → start ends g ≤ j → j < getD ends g 0 → (g ≡ f → j < k) → Fine n joins (start ends g) j
 earlier n ends joins f k from rises h e all here g j le lo hi lt =
     ⊎-elim
     (λ (q : g ≡ f).
-        let F : ℕ → Type 0 = λ b. Fine n joins b j in
-        let s : start ends f ≡ start ends g = ap (start ends) (sym q) in
-        subst F (e ∙ s) (here j (omega (arith, e, s)) (lt q)))
+    let F : ℕ → Type 0 = λ b. Fine n joins b j in
+    let s : start ends f ≡ start ends g = ap (start ends) (sym q) in
+    subst F (e ∙ s) (here j (omega (arith, e, s)) (lt q)))
     (⊎-elim (λ q. all g j q lo hi) (λ q. let z : ⊥ = omega arith in elim z [ ]))
     (cases-order g f)
 
