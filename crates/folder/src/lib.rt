@@ -1,9 +1,9 @@
 // The five sheets of a folder, and the list of their findings on standard output.
 use listing::Halt;
 use listing::Outcome;
-use listing::Sheets;
 use listing::Sink;
 use listing::list;
+use loading::Sheets;
 use std::alloc::Global;
 use std::error::AnyError;
 use std::fs;
@@ -31,9 +31,9 @@ impl<'a> Sink for Printer<'a> as PrinterSink {
     }
 }
 
-// What went wrong with a file, with its path.
-fn told(heap: Global, path: &str, e: io::Error) -> AnyError {
-    match format!(heap, "cannot read {path}: {e}") {
+// What went wrong, and with what.
+fn told(heap: Global, what: &str, path: &str, e: io::Error) -> AnyError {
+    match format!(heap, "cannot {what} {path}: {e}") {
         Ok(text) => text.into(),
         Err(_) => "out of memory".into(),
     }
@@ -50,12 +50,12 @@ fn read_sheet(rt: &LibcRuntime, folder: &str, name: &str) -> Result<Vec<u8>, Any
             if e.kind() == ErrorKind::NotFound {
                 return Ok(bytes);
             }
-            return Err(told(heap, path.as_str(), e));
+            return Err(told(heap, "read", path.as_str(), e));
         }
     };
     match file.take(MOST_BYTES).read_to_end(&mut bytes) {
         Ok(_) => Ok(bytes),
-        Err(e) => Err(told(heap, path.as_str(), e)),
+        Err(e) => Err(told(heap, "read", path.as_str(), e)),
     }
 }
 
@@ -77,6 +77,6 @@ pub fn list_folder(rt: &LibcRuntime, folder: &str) -> Result<Outcome, AnyError> 
     match list(rt.alloc(), &sheets, &mut printer) {
         Ok(outcome) => Ok(outcome),
         Err(Halt::Memory) => Err("out of memory".into()),
-        Err(Halt::Output(e)) => Err(e.into()),
+        Err(Halt::Output(e)) => Err(told(rt.alloc(), "write", "the list", e)),
     }
 }

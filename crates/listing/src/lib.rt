@@ -1,14 +1,10 @@
 // From the five sheets to the lines of the list.
 mod lister;
-mod loading;
 mod output;
 mod step;
 
 pub use lister::list;
 pub use lister::list_hits;
-pub use loading::Circuits;
-pub use loading::Sheets;
-pub use loading::prepare;
 pub use output::Halt;
 pub use output::Sink;
 pub use step::Outcome;

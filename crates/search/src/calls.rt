@@ -108,6 +108,7 @@ impl Search {
             if self.levels[last].net < nets {
                 return;
             }
+            self.levels[last].clear();
             self.len = last;
         }
     }

@@ -28,3 +28,5 @@ pub use load::load_nets;
 pub use load::load_parts;
 pub use load::load_rails;
 pub use nets::NetTables;
+pub use reader::Field;
+pub use reader::Reader;

@@ -66,7 +66,7 @@ fn parts_joined(heap: Global, rows: &[Join]) -> Result<Vec<u16>, AllocError>
 }
 
 // The rows are in the order of their nets, so the joins are the rows' parts as they stand.
-pub fn net_tables(heap: Global, rows: &[Join]) -> Result<NetTables, AllocError>
+pub(crate) fn net_tables(heap: Global, rows: &[Join]) -> Result<NetTables, AllocError>
     requires { ⌜ length (now rows) ≤ 16384 ⌝ }
     ensures { λ r. ⌜ made r (λ t. Tabled t (now (rows .entry))) ⌝ }
 {

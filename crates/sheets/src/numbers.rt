@@ -64,7 +64,7 @@ fn kind_of_letter(letter: char) -> Option<Kind>
 }
 
 // A net's or a part's number.
-pub fn index(field: Field<'_>) -> Option<u16>
+pub(crate) fn index(field: Field<'_>) -> Option<u16>
     requires { ⌜ Digited field ⌝ }
     ensures { λ r. ⌜ r ≡ index-of (text-of (field .entry)) ⌝ }
 {
@@ -78,7 +78,7 @@ pub fn index(field: Field<'_>) -> Option<u16>
 }
 
 // A part's code.
-pub fn code(field: Field<'_>) -> Option<u16>
+pub(crate) fn code(field: Field<'_>) -> Option<u16>
     requires { ⌜ Digited field ⌝ }
     ensures { λ r. ⌜ r ≡ code-of (text-of (field .entry)) ⌝ }
 {
@@ -112,7 +112,7 @@ fn with_scale(bytes: &[u8]) -> Option<u64>
 }
 
 // A number that a scale letter may follow.
-pub fn amount(field: Field<'_>) -> Option<u64>
+pub(crate) fn amount(field: Field<'_>) -> Option<u64>
     requires { ⌜ Digited field ⌝ }
     ensures { λ r. ⌜ r ≡ scaled (text-of (field .entry)) ⌝ }
 {
@@ -123,7 +123,7 @@ pub fn amount(field: Field<'_>) -> Option<u64>
 }
 
 // A kind is one letter.
-pub fn kind_in(field: Field<'_>) -> Option<Kind>
+pub(crate) fn kind_in(field: Field<'_>) -> Option<Kind>
     requires { ⌜ Digited field ⌝ }
     ensures { λ r. ⌜ r ≡ kind-of (text-of (field .entry)) ⌝ }
 {

@@ -115,7 +115,7 @@ impl<'a> Reader<'a> {
     }
 
     // The two fields of a line that ended and has no more.
-    pub fn pair(&mut self) -> Option<(Field<'a>, Field<'a>)>
+    pub(crate) fn pair(&mut self) -> Option<(Field<'a>, Field<'a>)>
         requires { ⌜ Fresh (now self) ⌝ }
         ensures fields { λ r. ⌜ mapped texts r ≡ two-fields (here (now (self .entry))) ⌝ }
         ensures told { λ r. ⌜ BySome r (Unit {0}) Pair ⌝ }
@@ -137,7 +137,7 @@ impl<'a> Reader<'a> {
     }
 
     // The field of a line that ended and has just one.
-    pub fn single(&mut self) -> Option<Field<'a>>
+    pub(crate) fn single(&mut self) -> Option<Field<'a>>
         requires { ⌜ Fresh (now self) ⌝ }
         ensures fields { λ r. ⌜ mapped text-of r ≡ one-field (here (now (self .entry))) ⌝ }
         ensures told { λ r. ⌜ BySome r (Unit {0}) (Told 0) ⌝ }

@@ -46,18 +46,20 @@ loop-self-again c =
     let q = c .loop-self .self in
     let i = q .len - 1 in
     let l′ = c .lift .last .self in
+    let l″ = c .clear .last .self in
     let within : i < length (nets (q .levels)) = omega (arith, nets-length (q .levels)) in
     let inside : i < length (q .levels) = omega arith in
     let y-is : l′ .net ≡ getD (nets (q .levels)) i 0 + 1 = c .lift .ensures ∙ ap (λ n. n + 1) (sym (nets-at (q .levels) i (record { net = 0 }) inside)) in
     let there = getD-set-same (q .levels) i l′ (record { net = 0 }) inside in
     let high : c .args .nets ≤ l′ .net = subst (λ (l : Level). c .args .nets ≤ l .net) there (c .if-self-last .left) in
-    let kept : take i (nets (set (q .levels) i l′)) ≡ take i (nets (q .levels)) =
-    ap (take i) (nets-set (q .levels) i l′) ∙ take-set (nets (q .levels)) i (l′ .net)
+    let raised = set (q .levels) i l′ in
+    let kept : take i (nets (set raised i l″)) ≡ take i (nets (q .levels)) =
+    ap (take i) (nets-set raised i l″) ∙ take-set (nets raised) i (l″ .net) ∙ ap (take i) (nets-set (q .levels) i l′) ∙ take-set (nets (q .levels)) i (l′ .net)
     in (
       ap (raise (c .args .nets)) kept
           ∙ climb-goes-on (c .args .nets) (nets (q .levels)) (q .len) i (l′ .net) (omega arith) within y-is high
           ∙ c .loop-self .inv .0,
       omega arith,
       subst (AllBelow (c .args .nets)) (sym kept) (below-fewer (c .args .nets) (nets (q .levels)) (q .len) i (omega arith) (c .loop-self .inv .2)),
-      length-set (q .levels) i l′ ∙ c .loop-self .inv .3,
+      length-set raised i l″ ∙ length-set (q .levels) i l′ ∙ c .loop-self .inv .3,
     )
