@@ -1,13 +1,10 @@
--- What marks leave of a net. Assumes nothing.
+-- What marks leave of a net.
 use mathlib.Core.Path.{_≡_, refl, sym, ap, _∙_}
 use mathlib.Core.Bool.{Bool, true, false, cond}
 use mathlib.Core.List.{List, [], _∷_}
-use Prim.Native.Nat.{ℕ, zero, suc, _≤_}
-use lib.ListN.{length, getD, replicate}
-use Rattle.std.specs.declared.option.Option.{Option}
-use Rattle.std.specs.declared.option.Option.the-variants.{None}
-use Rattle.std.proofs.shelf.Tests.{cond-false, le-ltb}
-use Rattle.circuit.specs.Circuit.{Circuit, at}
+use Prim.Native.Nat.{ℕ, zero, suc}
+use lib.ListN.{getD, replicate}
+use Rattle.circuit.specs.Circuit.{Circuit}
 use Rattle.boards.specs.Blank.{blanked, blank}
 
 cond-same : (m : Bool) → _≡_ {A = List ℕ} [] (cond m [] [])
@@ -35,6 +32,3 @@ unmarked (suc n) (x ∷ ns) = ap (λ rest. x ∷ rest) (unmarked n ns)
 
 pub blank-none : (n : ℕ) (c : Circuit) → blank (replicate n false) c ≡ c
 blank-none n c = ap (λ (ns : List (List ℕ)). record { classes = c .classes; nets = ns }) (unmarked n (c .nets))
-
-pub at-none : (xs : List ℕ) (k : ℕ) → length xs ≤ k → None ≡ at xs k
-at-none xs k h = sym (cond-false _ _ _ (le-ltb k (length xs) h))

@@ -1,4 +1,4 @@
--- A circuit some of whose nets are blanked. Assumes nothing.
+-- A circuit some of whose nets are blanked.
 use mathlib.Core.Path.{_≡_, refl, sym, ap, _∙_, subst}
 use mathlib.Core.Bool.{Bool, true, false, cond}
 use mathlib.Core.List.{List, [], _∷_}

@@ -1,4 +1,4 @@
--- Why three tables make no flat board: the smallest number that applies, at its smallest place. Assumes nothing.
+-- Why three tables make no flat board: the smallest number that applies, at its smallest place.
 use mathlib.Core.List.{List}
 use mathlib.Core.Logic.{_⊎_}
 use Prim.Native.Nat.{ℕ, _<_, _≤_}

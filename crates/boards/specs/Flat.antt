@@ -1,4 +1,4 @@
--- The tables that make a flat board. Assumes nothing.
+-- The tables that make a flat board.
 use mathlib.Core.List.{List}
 use Prim.Native.Nat.{ℕ, _≤_}
 use native.Mathlib.Omega.{arith}

@@ -1,4 +1,4 @@
--- The cell rule and a hit, by tests that compute. Assumes nothing.
+-- The cell rule and a hit, by tests that compute.
 use mathlib.Core.Path.{_≡_, refl, sym, ap, subst, subst₂, _∙_}
 use mathlib.Core.Logic.{_⊎_, inl, inr, ⊎-elim}
 use mathlib.Core.Bool.{Bool, true, false, not, _&&_, _||_}

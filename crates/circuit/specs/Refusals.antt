@@ -1,4 +1,4 @@
--- The number of each reason to refuse. Assumes nothing.
+-- The number of each reason to refuse.
 use Prim.Native.Nat.{ℕ}
 use Rattle.circuit.specs.declared.refusal.Reason.{Reason}
 use Rattle.circuit.specs.declared.refusal.Reason.the-variants.{NetCount, PartCount, NetEnd, PartOrder, LoosePart, BoardLimit, BoardEnd, BoardPartOrder, LabelCount, ClassRoom, UnfitLabel, Budget, ShortRow, TupleLength, TupleNet, ShortOutput, ShortTaken, NoPartLeft, NetOffBoard, TallyFull, SheetSize, NamesLine, FieldCount, NumberField, KindField, NetOrder, TableFull}

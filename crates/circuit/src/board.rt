@@ -1,7 +1,7 @@
 // A board as an interface: what it means, and the questions that it answers.
 ghost use mathlib.Core.Path.{_≡_};
-ghost use lib.ListN.{length};
-ghost use Rattle.circuit.specs.Circuit.{Circuit, Sound, Small, net, at, on};
+ghost use lib.ListN.{length, getD};
+ghost use Rattle.circuit.specs.Circuit.{Circuit, Sound, Small, net, class, at, on};
 
 // What is searched. Its answers follow from its meaning alone.
 pub trait Board {
@@ -32,6 +32,26 @@ pub trait Board {
 
     fn on(&self, v: u16, f: u16) -> bool
         ensures { λ r. ⌜ r ≡ on (means (now (self .entry))) v f ⌝ };
+}
+
+// A part's class, 0 off the board.
+pub fn class_of<B: Board>(board: &B, v: u16) -> u16
+    ensures { λ r. ⌜ r ≡ class (B·Board .means (now (board .entry))) v ⌝ }
+{
+    match board.class(v) {
+        Some(class) => class,
+        None => 0,
+    }
+}
+
+// The k-th part of a net, 0 where there is none.
+pub fn part_of<B: Board>(board: &B, f: u16, k: u16) -> u16
+    ensures { λ r. ⌜ r ≡ getD (net (B·Board .means (now (board .entry))) f) k 0 ⌝ }
+{
+    match board.part(f, k) {
+        Some(part) => part,
+        None => 0,
+    }
 }
 
 // A lent board is a board, so that layers can stand over one that the caller keeps.

@@ -5,6 +5,8 @@ mod refusal;
 
 pub use board::Board;
 pub use board::RefIsBoard;
+pub use board::class_of;
+pub use board::part_of;
 pub use refusal::Reason;
 pub use refusal::ReasonDebug;
 pub use refusal::ReasonPartialEq;

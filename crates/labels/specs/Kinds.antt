@@ -1,4 +1,4 @@
--- What fit and alike mean of the two label kinds. Assumes nothing.
+-- What fit and alike mean of the two label kinds.
 use mathlib.Core.Bool.{Bool, true, false, not, _&&_}
 use lib.Dec.{eqb}
 use lib.Ieee.{Float, binary64, ofBits, eq, le}

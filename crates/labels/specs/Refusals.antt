@@ -1,4 +1,4 @@
--- What labelling answers: the smallest number first, at its smallest place. Assumes nothing.
+-- What labelling answers: the smallest number first, at its smallest place.
 use mathlib.Core.List.{List}
 use mathlib.Core.Bool.{Bool, cond, _||_}
 use Prim.Native.Nat.{ℕ, _+_}

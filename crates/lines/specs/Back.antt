@@ -1,4 +1,4 @@
--- A line of numbers, read as a sheet's line is. Assumes nothing.
+-- A line of numbers, read as a sheet's line is.
 use mathlib.Core.Path.{_≡_}
 use mathlib.Core.List.{List, [], _∷_, map}
 use Prim.Native.Nat.{ℕ, _<_}

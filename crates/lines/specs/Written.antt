@@ -1,4 +1,4 @@
--- The bytes of each line that is written. Assumes nothing.
+-- The bytes of each line that is written.
 use mathlib.Core.List.{List, [], _∷_, _++_, map}
 use Prim.Native.Nat.{ℕ}
 use lib.Chars.{codes}

@@ -1,4 +1,4 @@
--- Lines one after another, and the calls that gave them. Assumes nothing.
+-- Lines one after another, and the calls that gave them.
 use mathlib.Core.Path.{_≡_, refl, sym, ap, subst, _∙_}
 use mathlib.Core.Bool.{Bool}
 use mathlib.Core.List.{List, [], _∷_, _++_, map}

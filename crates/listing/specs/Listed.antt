@@ -1,4 +1,4 @@
--- What a list writes. Assumes nothing.
+-- What a list writes.
 use mathlib.Core.Path.{_≡_}
 use mathlib.Core.Bool.{Bool}
 use mathlib.Core.List.{List, [], _∷_, _++_, map}

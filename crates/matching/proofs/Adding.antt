@@ -1,4 +1,4 @@
--- Cells added part by part, and net by net. Assumes nothing.
+-- Cells added part by part, and net by net.
 use mathlib.Core.Path.{_≡_, refl, sym, ap, subst, _∙_}
 use mathlib.Core.Bool.{Bool, true, false, cond}
 use mathlib.Core.List.{List, [], _∷_, _++_, append-nil, append-assoc}
@@ -17,9 +17,9 @@ use Rattle.circuit.proofs.Counting.{last-or}
 use mathlib.Core.Logic.{⊎-elim}
 use Rattle.matching.specs.declared.cell.Cell.{Cell}
 use Rattle.tally.specs.declared.entry.Entry.{Entry}
-use Rattle.tally.specs.Tallies.{tallied, added, answer}
+use Rattle.tally.specs.Tallies.{tallied, answer}
 use Rattle.matching.specs.Orders.{cells}
-use Rattle.tally.proofs.Counts.{tallied-push, roomy, answer-room}
+use Rattle.tally.proofs.Counts.{roomy, answer-room}
 use Rattle.matching.specs.Keys.{cell-of, fresh, picked, keys, sizes}
 
 module _ (c : Circuit) (s : List ℕ) where
@@ -101,9 +101,6 @@ module _ (c : Circuit) (s : List ℕ) where
 -- the test of the bits below i
 pub low-bits : (m i : ℕ) → i < 16 → bitAnd m ((1 * 2 ^ i) % 65536 - 1) ≡ m % 2 ^ i
 low-bits m i l = ap (λ (n : ℕ). bitAnd m (n - 1)) (one-shl i 16 l) ∙ and-mask m i
-
-pub tallied-more : (ks : List Cell) (k : Cell) (es es′ : List (Entry Cell)) → es ≡ tallied (cells .cmp) ks → es′ ≡ added (cells .cmp) es k → es′ ≡ tallied (cells .cmp) (ks ++ k ∷ [])
-tallied-more ks k es es′ e a = a ∙ ap (λ (z : List (Entry Cell)). added (cells .cmp) z k) e ∙ sym (tallied-push (cells .cmp) [] ks k)
 
 module _ (c : Circuit) (s : List ℕ) (i mk v w : ℕ) (m : mk ≡ mask c s v) (e : v ≡ w) where
   pub fresh-yes : i < 16 → bitAnd mk ((1 * 2 ^ i) % 65536 - 1) ≡ 0 → fresh c s i w ≡ true

@@ -1,4 +1,4 @@
--- The cells of the parts on a start's nets, counted by key, are the cells of all parts. Assumes nothing.
+-- The cells of the parts on a start's nets, counted by key, are the cells of all parts.
 use mathlib.Core.Path.{_≡_, refl, sym, ap, subst, _∙_}
 use mathlib.Core.Logic.{_⊎_, inl, inr, ⊎-elim}
 use mathlib.Core.Bool.{Bool, true, false, not, _&&_, cond}

@@ -1,4 +1,4 @@
--- Equal tallies are the cell rule; sizes under the rule. Assumes nothing.
+-- Equal tallies are the cell rule; sizes under the rule.
 use mathlib.Core.Path.{_≡_, refl, sym, ap, subst, _∙_}
 use mathlib.Core.Logic.{_⊎_, inl, inr, ⊎-elim}
 use mathlib.Core.Bool.{Bool, true, false, _&&_, cond}

@@ -1,4 +1,4 @@
--- What map answers, way by way. Assumes nothing.
+-- What map answers, way by way.
 use mathlib.Core.Path.{_≡_, refl, sym, ap, subst, _∙_}
 use mathlib.Core.Bool.{Bool, true, false, _&&_, cond}
 use mathlib.Core.List.{List, [], _∷_}

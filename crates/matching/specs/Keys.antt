@@ -1,4 +1,4 @@
--- The cells of the parts on a start's nets, each part once: at the first net of the start that has it. Assumes nothing.
+-- The cells of the parts on a start's nets, each part once: at the first net of the start that has it.
 use mathlib.Core.Bool.{Bool, true, false, cond}
 use mathlib.Core.List.{List, [], _∷_, _++_}
 use mathlib.Core.Path.{_≡_}

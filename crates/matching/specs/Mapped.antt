@@ -1,4 +1,4 @@
--- What map answers. Assumes nothing.
+-- What map answers.
 use mathlib.Core.Bool.{Bool, true, false, cond}
 use mathlib.Core.List.{List, [], _∷_, map}
 use Prim.Native.Nat.{ℕ, suc}

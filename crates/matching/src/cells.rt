@@ -4,31 +4,17 @@ ghost use mathlib.Core.List.{_∷_};
 ghost use Prim.Native.Nat.{ℕ, suc, _+_, _<_, _≤_};
 ghost use lib.ListN.{length, getD, take};
 ghost use denote.Ref.{name};
-ghost use Rattle.std.specs.declared.result.Result.the-variants.{Ok};
-ghost use Rattle.circuit.specs.Circuit.{net, class, mask};
-ghost use Rattle.tally.specs.Tallies.{tallied, added, answer};
+ghost use Rattle.circuit.specs.Circuit.{mask};
+ghost use Rattle.tally.specs.Tallies.{tallied};
 ghost use Rattle.matching.specs.Orders.{cells as by-cell};
 ghost use Rattle.matching.specs.Keys.{keys, sizes};
 use super::cell::Cell;
 use super::cell::CellOrd;
 use circuit::Board;
+use circuit::class_of;
+use circuit::part_of;
 use tally::Entry;
 use tally::Tally;
-
-// The part at a place of a net.
-fn part_at<C: Board>(c: &C, f: u16, k: u16) -> u16
-    requires { ⌜ k < length (net (C·Board .means (now c)) f) ⌝ }
-    ensures { λ r. ⌜ r ≡ getD (net (C·Board .means (now (c .entry))) f) k 0 ⌝ }
-{
-    c.part(f, k).unwrap()
-}
-
-pub(super) fn class_at<C: Board>(c: &C, v: u16) -> u16
-    requires { ⌜ v < length (C·Board .means (now c) .classes) ⌝ }
-    ensures { λ r. ⌜ r ≡ class (C·Board .means (now (c .entry))) v ⌝ }
-{
-    c.class(v).unwrap()
-}
 
 // The nets of the start that have the part: bit i stands for the i-th.
 pub(super) fn mask_of<C: Board>(c: &C, start: &[u16], v: u16) -> u16
@@ -42,21 +28,6 @@ pub(super) fn mask_of<C: Board>(c: &C, start: &[u16], v: u16) -> u16
         }
     }
     mask
-}
-
-// Adds a cell for which there is room.
-fn put(tally: &mut Tally<'_, Cell>, cell: Cell)
-    requires within { ⌜ now tally .len ≤ length (now (now tally .entries)) ⌝ }
-    requires room { ⌜ answer (by-cell .cmp) (take (now tally .len) (now (now tally .entries))) cell (length (now (now tally .entries))) ≡ Ok tt ⌝ }
-    ensures within { λ _. ⌜ now (tally .exit) .len ≤ length (now (now (tally .exit) .entries)) ⌝ }
-    ensures after { λ _. ⌜ take (now (tally .exit) .len) (now (now (tally .exit) .entries)) ≡ added (by-cell .cmp) (take (now (tally .entry) .len) (now (now (tally .entry) .entries))) cell ⌝ }
-    ensures lender { λ _. ⌜ name (now (tally .exit) .entries) ≡ name (now (tally .entry) .entries) ⌝ }
-    ensures room { λ _. ⌜ length (now (now (tally .exit) .entries)) ≡ length (now (now (tally .entry) .entries)) ⌝ }
-{
-    match tally.add(cell) {
-        Ok(()) => {}
-        Err(_) => unreachable(),
-    }
 }
 
 // Adds the cells of the parts on the start's i-th net that no earlier net of the start has.
@@ -75,16 +46,11 @@ fn add_net<C: Board>(c: &C, start: &[u16], i: usize, tally: &mut Tally<'_, Cell>
     let f = start[i];
     let earlier: u16 = (1 << i) - 1;
     for k in 0..c.size(f) {
-        let v = part_at(c, f, k);
+        let v = part_of(c, f, k);
         let mask = mask_of(c, start, v);
         if mask & earlier == 0 {
-            put(
-                tally,
-                Cell {
-                    class: class_at(c, v),
-                    mask,
-                },
-            );
+            let class = class_of(c, v);
+            tally.put(Cell { class, mask });
         }
     }
 }

@@ -4,9 +4,9 @@ ghost use Prim.Native.Nat.{ℕ, _<_, _≤_};
 ghost use lib.ListN.{length, getD};
 ghost use Rattle.circuit.specs.Circuit.{distinct?, in-cell};
 ghost use Rattle.matching.specs.Mapped.{past};
-use super::cells::class_at;
 use super::cells::mask_of;
 use circuit::Board;
+use circuit::class_of;
 use tables::holds;
 
 // Whether no number comes twice.
@@ -34,9 +34,8 @@ pub(super) fn first_past(tuple: &[u16], n: u16) -> usize
 }
 
 pub(super) fn in_cell<B: Board>(b: &B, start: &[u16], class: u16, mask: u16, v: u16) -> bool
-    requires short { ⌜ length (now start) ≤ 16 ⌝ }
-    requires there { ⌜ v < length (B·Board .means (now b) .classes) ⌝ }
+    requires { ⌜ length (now start) ≤ 16 ⌝ }
     ensures { λ r. ⌜ r ≡ in-cell (B·Board .means (now (b .entry))) (now (start .entry)) class mask v ⌝ }
 {
-    class_at(b, v) == class && mask_of(b, start, v) == mask
+    class_of(b, v) == class && mask_of(b, start, v) == mask
 }

@@ -11,7 +11,6 @@ ghost use Rattle.pattern.specs.Drawn.{drawn};
 ghost use Rattle.matching.specs.Mapped.{verdict, is-map, mapped};
 use super::agree::order;
 use super::answer::MapAnswer;
-use super::cells::class_at;
 use super::cells::mask_of;
 use super::looks::differ;
 use super::looks::first_past;
@@ -20,6 +19,7 @@ use super::taken::Taken;
 use circuit::Board;
 use circuit::Reason;
 use circuit::Refusal;
+use circuit::class_of;
 use pattern::Pattern;
 use pattern::PatternIsBoard;
 
@@ -42,7 +42,7 @@ fn place_all<B: Board>(
     ensures len { λ _. ⌜ length (now (now (guard .exit) .bytes)) ≡ length (now (now (guard .entry) .bytes)) ⌝ }
 {
     for u in 0..p.parts() {
-        let class = class_at(p, u);
+        let class = class_of(p, u);
         let mask = mask_of(p, order(tuple.len()), u);
         let Some(v) = guard.first_free(b, tuple, class, mask) else {
             return Err(Refusal {

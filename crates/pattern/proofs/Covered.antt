@@ -1,4 +1,4 @@
--- Each part of a pattern is on one of its nets. Assumes nothing.
+-- Each part of a pattern is on one of its nets.
 use mathlib.Core.Path.{_≡_, sym, ap, subst, _∙_}
 use mathlib.Core.List.{List, []}
 use Prim.Native.Nat.{ℕ, _+_, _-_, _<_, _≤_}

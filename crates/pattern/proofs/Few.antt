@@ -1,4 +1,4 @@
--- A pattern has at most 1,024 joins: 16 nets of at most 64 parts. Assumes nothing.
+-- A pattern has at most 1,024 joins: 16 nets of at most 64 parts.
 use mathlib.Core.Path.{_≡_, ap}
 use mathlib.Core.List.{List, _∷_}
 use Prim.Native.Nat.{ℕ, zero, suc, _+_, _-_, _*_, _<_, _≤_}

@@ -1,4 +1,4 @@
--- What a pattern means. Assumes nothing.
+-- What a pattern means.
 use lib.ListN.{take}
 use Rattle.circuit.specs.Circuit.{Circuit}
 use Rattle.tables.specs.Tables.{circuit-of}

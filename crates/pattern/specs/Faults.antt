@@ -1,4 +1,4 @@
--- Why three tables make no pattern: the smallest number that applies, at its smallest place. Assumes nothing.
+-- Why three tables make no pattern: the smallest number that applies, at its smallest place.
 use mathlib.Core.Path.{_≡_}
 use mathlib.Core.List.{List}
 use mathlib.Core.Logic.{_⊎_}

@@ -1,4 +1,4 @@
--- What every pattern is. Assumes nothing.
+-- What every pattern is.
 use mathlib.Core.Path.{_≡_, sym, ap, subst, _∙_}
 use mathlib.Core.List.{List}
 use Prim.Native.Nat.{ℕ, _<_, _≤_}

@@ -1,4 +1,4 @@
--- The tables that make a pattern. Assumes nothing.
+-- The tables that make a pattern.
 use mathlib.Core.Path.{_≡_}
 use mathlib.Core.List.{List}
 use mathlib.Core.Bool.{true}

@@ -1,5 +1,4 @@
 -- Enough tries lead to the end: a start has a value below (N + 1) ^ m, and each try raises it.
--- Assumes nothing.
 use mathlib.Core.Path.{_≡_, refl, sym, _∙_, ap, subst}
 use mathlib.Core.List.{List, [], _∷_, _++_}
 use mathlib.Core.Logic.{_⊎_, inl, inr}

@@ -1,5 +1,4 @@
 -- The promise, of any hits that the tries are lawful for.
--- Assumes nothing.
 use mathlib.Core.List.{List}
 use Prim.Native.Nat.{ℕ}
 use Rattle.promise.specs.Search.{Rules}

@@ -1,4 +1,4 @@
--- The tries are lawful for the hits: a passing tuple is a hit, and each start with which a hit begins passes. Assumes nothing.
+-- The tries are lawful for the hits: a passing tuple is a hit, and each start with which a hit begins passes.
 use mathlib.Core.Path.{_≡_, refl, sym, ap, subst, _∙_}
 use mathlib.Core.Bool.{Bool, true, _&&_}
 use mathlib.Core.List.{List, _++_}

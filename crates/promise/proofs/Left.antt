@@ -1,4 +1,4 @@
--- How many tries are left at most; every Hit and every Paused makes them fewer. Assumes nothing.
+-- How many tries are left at most; every Hit and every Paused makes them fewer.
 use mathlib.Core.Path.{_≡_, refl, sym, ap, subst, _∙_}
 use mathlib.Core.List.{List}
 use mathlib.Core.Logic.{_⊎_, inl, inr, ⊎-elim}

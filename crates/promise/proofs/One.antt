@@ -1,5 +1,4 @@
 -- `Next` pins a call: from the same bookmark, budget and row there is one answer, one bookmark after and one row after.
--- Assumes nothing.
 use mathlib.Core.Path.{_≡_, refl, sym, _∙_, ap, subst}
 use mathlib.Core.List.{List, [], _∷_, _++_}
 use mathlib.Core.Logic.{_⊎_, inl, inr}

@@ -1,5 +1,4 @@
 -- Any succession of calls: the hand-over stays right, and the rest of the promise.
--- Assumes nothing.
 use mathlib.Core.Path.{_≡_, refl, sym, _∙_, ap, subst}
 use mathlib.Core.List.{List, [], _∷_, _++_}
 use mathlib.Core.Bool.{Bool, true, false, cond}

@@ -1,5 +1,4 @@
 -- One try, and tries one after another: the bookmark stays a start, moves forward, and no hit is skipped.
--- Assumes nothing.
 use mathlib.Core.Path.{_≡_, refl, sym, _∙_, ap, subst}
 use mathlib.Core.List.{List, [], _∷_, _++_}
 use mathlib.Core.Bool.{Bool, true, false, cond}

@@ -1,4 +1,4 @@
--- Which starts pass when the hits of a pattern on a board are sought, and what a search for them promises. Assumes nothing.
+-- Which starts pass when the hits of a pattern on a board are sought, and what a search for them promises.
 use mathlib.Core.Path.{_≡_}
 use mathlib.Core.Bool.{Bool, true, _&&_}
 use mathlib.Core.List.{List, _++_}

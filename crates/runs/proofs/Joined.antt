@@ -1,4 +1,4 @@
--- Calls made one after another are a run, so all that is promised of runs holds of them. Assumes nothing.
+-- Calls made one after another are a run, so all that is promised of runs holds of them.
 use mathlib.Core.Path.{_≡_, refl, sym, ap, subst, subst₂, _∙_}
 use mathlib.Core.Bool.{Bool, true}
 use mathlib.Core.Logic.{_↔_}

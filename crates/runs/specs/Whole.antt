@@ -1,4 +1,4 @@
--- What a whole succession of calls comes to. Assumes nothing.
+-- What a whole succession of calls comes to.
 use mathlib.Core.Path.{_≡_}
 use mathlib.Core.Bool.{Bool}
 use mathlib.Core.List.{List, [], _∷_, _++_}

@@ -1,4 +1,4 @@
--- How a search holds its bookmark, and what its answers say. Assumes nothing.
+-- How a search holds its bookmark, and what its answers say.
 use mathlib.Core.Path.{_≡_}
 use mathlib.Core.List.{List, [], _∷_, _++_, map}
 use mathlib.Core.Bool.{Bool, true, false, cond, _&&_}

@@ -1,4 +1,4 @@
--- Which byte strings are good sheets, without reading them. Assumes nothing.
+-- Which byte strings are good sheets, without reading them.
 use mathlib.Core.Path.{_≡_}
 use mathlib.Core.List.{List, [], _∷_, _++_, map}
 use mathlib.Core.Logic.{_⊎_, inl, inr}

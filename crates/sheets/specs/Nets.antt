@@ -1,4 +1,4 @@
--- The tables that a joins sheet's rows give: an end for each net, and the joins. Assumes nothing.
+-- The tables that a joins sheet's rows give: an end for each net, and the joins.
 use mathlib.Core.Path.{_≡_}
 use mathlib.Core.List.{List, [], _∷_, map}
 use mathlib.Core.Bool.{Bool, cond}

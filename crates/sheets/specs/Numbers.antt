@@ -1,4 +1,4 @@
--- The numbers and words of a field. Assumes nothing.
+-- The numbers and words of a field.
 use mathlib.Core.List.{List, [], _∷_}
 use mathlib.Core.Bool.{Bool, true, false, cond, not, _&&_, _||_}
 use Prim.Native.Nat.{ℕ, _+_, _-_, _*_}

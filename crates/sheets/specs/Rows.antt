@@ -1,4 +1,4 @@
--- What a line of each sheet says after the rows before it: a row, or the line's fault. Assumes nothing.
+-- What a line of each sheet says after the rows before it: a row, or the line's fault.
 use mathlib.Core.List.{List, [], _∷_}
 use mathlib.Core.Bool.{Bool, true, false, cond}
 use Prim.Native.Nat.{ℕ, _+_, _-_}

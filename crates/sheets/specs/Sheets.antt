@@ -1,4 +1,4 @@
--- A whole sheet: its rows, or its one fault. Assumes nothing.
+-- A whole sheet: its rows, or its one fault.
 use mathlib.Core.List.{List, [], _∷_, _++_}
 use mathlib.Core.Bool.{Bool, true, false, cond, _&&_, _||_}
 use Prim.Native.Nat.{ℕ, _+_}

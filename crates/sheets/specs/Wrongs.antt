@@ -1,4 +1,4 @@
--- Everything that is wrong with a line of a sheet; its fault is the smallest number at its smallest place. Assumes nothing.
+-- Everything that is wrong with a line of a sheet; its fault is the smallest number at its smallest place.
 use mathlib.Core.Path.{_≡_}
 use mathlib.Core.List.{List}
 use mathlib.Core.Logic.{_⊎_}

@@ -1,4 +1,4 @@
--- The counts sieve drops no start with which a hit begins. Assumes nothing.
+-- The counts sieve drops no start with which a hit begins.
 use mathlib.Core.Path.{_≡_, refl, sym, ap, subst, _∙_}
 use mathlib.Core.Logic.{_⊎_, inl, inr, ⊎-elim}
 use mathlib.Core.Bool.{Bool, true, false, _&&_, cond}

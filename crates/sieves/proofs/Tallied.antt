@@ -1,4 +1,4 @@
--- The tally of a net's classes counts, for each class, the parts of that class on the net. Assumes nothing.
+-- The tally of a net's classes counts, for each class, the parts of that class on the net.
 use mathlib.Core.Path.{_≡_, refl, sym, ap, subst, _∙_}
 use mathlib.Core.Logic.{_⊎_, inl, inr, ⊎-elim}
 use mathlib.Core.Bool.{Bool, true, false, _&&_, cond}
@@ -21,9 +21,9 @@ use Rattle.circuit.specs.Circuit.{Circuit, parts, net, class, on, Sound, bit, c
 use Rattle.circuit.proofs.Masks.{net-ascends, net-below}
 use Rattle.circuit.proofs.Nets.{net-count}
 use Rattle.tally.specs.declared.entry.Entry.{Entry}
-use Rattle.tally.specs.Tallies.{by, counted, tallied, added, answer}
+use Rattle.tally.specs.Tallies.{by, counted, tallied, answer}
 use Rattle.tally.specs.Levels.{times}
-use Rattle.tally.proofs.Counts.{counted-tallied, tallied-push, roomy, answer-room}
+use Rattle.tally.proofs.Counts.{counted-tallied, roomy, answer-room}
 use Rattle.sieves.specs.Counts.{classed, SameCounts, same-counts?, classes-on}
 use Rattle.sieves.proofs.Kept.{counts-decided}
 
@@ -165,9 +165,6 @@ module _ (c : Circuit) (f k : ℕ) (h : k < length (net c f)) where
       let n : length ks ≡ k = length-map (take k (net c f)) (class c) ∙ length-take-le k (net c f) (omega arith) in
       ap (λ (z : List (Entry ℕ)). answer (unsigned .cmp) z cls room) e
       ∙ answer-room (unsigned .cmp) (length ks) room (tallied (unsigned .cmp) ks) cls (roomy (unsigned .cmp) ks) (omega arith) (omega arith)
-
-pub tallied-more : (ks : List ℕ) (k : ℕ) (es es′ : List (Entry ℕ)) → es ≡ tallied (unsigned .cmp) ks → es′ ≡ added (unsigned .cmp) es k → es′ ≡ tallied (unsigned .cmp) (ks ++ k ∷ [])
-tallied-more ks k es es′ e a = a ∙ ap (λ (z : List (Entry ℕ)). added (unsigned .cmp) z k) e ∙ sym (tallied-push (unsigned .cmp) [] ks k)
 
 pub so-far-all : (c : Circuit) (f k : ℕ) → length (net c f) ≤ k → map (class c) (take k (net c f)) ≡ classes-on c f
 so-far-all c f k h = ap (map (class c)) (take-all k (net c f) h)

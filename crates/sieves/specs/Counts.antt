@@ -1,4 +1,4 @@
--- When a board net has, for each class, as many parts as a pattern net. Assumes nothing.
+-- When a board net has, for each class, as many parts as a pattern net.
 use mathlib.Core.Path.{_≡_}
 use mathlib.Core.Bool.{Bool, true, false, _&&_, cond}
 use mathlib.Core.List.{List, map}

@@ -1,59 +1,21 @@
 // The counts sieve: it keeps a start when its last net has, for each class, as many parts as the pattern net at that place.
 ghost use mathlib.Core.Path.{_≡_};
-ghost use Prim.Native.Nat.{ℕ, _<_, _≤_};
-ghost use lib.ListN.{length, getD, take};
-ghost use denote.Ref.{name};
+ghost use Prim.Native.Nat.{_≤_};
+ghost use lib.ListN.{length, take};
 ghost use Rattle.std.specs.Keys.{unsigned};
-ghost use Rattle.std.specs.declared.result.Result.the-variants.{Ok};
-ghost use Rattle.circuit.specs.Circuit.{net, class};
-ghost use Rattle.tally.specs.Tallies.{tallied, added, answer};
+ghost use Rattle.circuit.specs.Circuit.{net};
+ghost use Rattle.tally.specs.Tallies.{tallied};
 ghost use Rattle.pattern.specs.Drawn.{drawn};
 ghost use Rattle.sieves.specs.Counts.{classes-on, same-counts?, counts-keep};
 use super::Sieve;
 use circuit::Board;
+use circuit::class_of;
+use circuit::part_of;
 use pattern::Pattern;
 use pattern::PatternIsBoard;
 use tally::Entry;
 use tally::Tally;
 use tally::agree;
-
-// The k-th part of a net.
-fn part_at<C: Board>(c: &C, f: u16, k: u16) -> u16
-    requires { ⌜ k < length (net (C·Board .means (now c)) f) ⌝ }
-    ensures { λ r. ⌜ r ≡ getD (net (C·Board .means (now (c .entry))) f) k 0 ⌝ }
-{
-    c.part(f, k).unwrap()
-}
-
-fn class_at<C: Board>(c: &C, v: u16) -> u16
-    requires { ⌜ v < length (C·Board .means (now c) .classes) ⌝ }
-    ensures { λ r. ⌜ r ≡ class (C·Board .means (now (c .entry))) v ⌝ }
-{
-    c.class(v).unwrap()
-}
-
-// The class of the k-th part of a net.
-fn class_on<C: Board>(c: &C, f: u16, k: u16) -> u16
-    requires { ⌜ k < length (net (C·Board .means (now c)) f) ⌝ }
-    ensures { λ r. ⌜ r ≡ class (C·Board .means (now (c .entry))) (getD (net (C·Board .means (now (c .entry))) f) k 0) ⌝ }
-{
-    class_at(c, part_at(c, f, k))
-}
-
-// Adds a class for which there is room.
-fn put(tally: &mut Tally<'_, u16>, class: u16)
-    requires within { ⌜ now tally .len ≤ length (now (now tally .entries)) ⌝ }
-    requires room { ⌜ answer (unsigned .cmp) (take (now tally .len) (now (now tally .entries))) class (length (now (now tally .entries))) ≡ Ok tt ⌝ }
-    ensures within { λ _. ⌜ now (tally .exit) .len ≤ length (now (now (tally .exit) .entries)) ⌝ }
-    ensures after { λ _. ⌜ take (now (tally .exit) .len) (now (now (tally .exit) .entries)) ≡ added (unsigned .cmp) (take (now (tally .entry) .len) (now (now (tally .entry) .entries))) class ⌝ }
-    ensures lender { λ _. ⌜ name (now (tally .exit) .entries) ≡ name (now (tally .entry) .entries) ⌝ }
-    ensures room { λ _. ⌜ length (now (now (tally .exit) .entries)) ≡ length (now (now (tally .entry) .entries)) ⌝ }
-{
-    match tally.add(class) {
-        Ok(()) => {}
-        Err(_) => unreachable(),
-    }
-}
 
 // Tallies the classes of a net's parts, and answers how many classes came.
 fn tally_net<C: Board>(c: &C, f: u16, room: &mut [Entry<u16>]) -> usize
@@ -63,7 +25,7 @@ fn tally_net<C: Board>(c: &C, f: u16, room: &mut [Entry<u16>]) -> usize
 {
     let mut tally = Tally::over(room);
     for k in 0..c.size(f) {
-        put(&mut tally, class_on(c, f, k));
+        tally.put(class_of(c, part_of(c, f, k)));
     }
     tally.len()
 }

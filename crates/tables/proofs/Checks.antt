@@ -1,4 +1,4 @@
--- What the check of the tables shows. Assumes nothing.
+-- What the check of the tables shows.
 use mathlib.Core.Path.{_≡_, sym, ap, _∙_, subst}
 use mathlib.Core.List.{List, [], _∷_}
 use mathlib.Core.Logic.{_⊎_, inl, inr, ⊎-elim}

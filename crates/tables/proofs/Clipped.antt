@@ -1,4 +1,4 @@
--- A part of the joins that is cut to what there is. Assumes nothing.
+-- A part of the joins that is cut to what there is.
 use mathlib.Core.Path.{_≡_, refl, sym, ap, _∙_}
 use mathlib.Core.List.{List, []}
 use mathlib.Core.Logic.{⊎-elim}

@@ -1,4 +1,4 @@
--- What the nets of three tables are. Assumes nothing.
+-- What the nets of three tables are.
 use mathlib.Core.Path.{_≡_, refl, sym, ap, _∙_, subst}
 use mathlib.Core.List.{List, [], _∷_}
 use mathlib.Core.Logic.{_⊎_, inl, inr, ⊎-elim}

@@ -1,4 +1,4 @@
--- What is wrong with an end or a join of three tables, and where it is wrong first. Assumes nothing.
+-- What is wrong with an end or a join of three tables, and where it is wrong first.
 use mathlib.Core.Path.{_≡_}
 use mathlib.Core.List.{List, _∷_}
 use mathlib.Core.Logic.{_⊎_}

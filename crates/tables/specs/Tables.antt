@@ -1,4 +1,4 @@
--- Three tables of numbers, and the circuit that they mean. Assumes nothing.
+-- Three tables of numbers, and the circuit that they mean.
 use mathlib.Core.Path.{_≡_}
 use mathlib.Core.List.{List, [], _∷_}
 use Prim.Native.Nat.{ℕ, _+_, _-_, _<_, _≤_}

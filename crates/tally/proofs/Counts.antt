@@ -1,4 +1,4 @@
--- Counts after any number of keys; room for each. Assumes nothing.
+-- Counts after any number of keys; room for each.
 use mathlib.Core.Path.{_≡_, refl, sym, ap, subst, _∙_}
 use mathlib.Core.Logic.{_⊎_, inl, inr, ⊎-elim}
 use mathlib.Core.Bool.{Bool, true, false, cond}
@@ -16,6 +16,7 @@ use Rattle.std.specs.declared.cmp.Ordering.the-variants.{Less, Equal, Greater}
 use Rattle.std.specs.declared.result.Result.{Result}
 use Rattle.std.specs.declared.result.Result.the-variants.{Ok, Err}
 use Rattle.std.specs.Orderings.{reversed, Decides}
+use Rattle.std.specs.Results.{isOk}
 use Rattle.std.specs.Keys.{Total, alike-right}
 use Rattle.tally.specs.declared.entry.Entry.{Entry}
 use Rattle.circuit.specs.declared.refusal.Reason.the-variants.{TallyFull}
@@ -196,3 +197,11 @@ module _ {K : Type 0} {R : K → K → Ordering → Type 0} (o : Total R) where
 
       none : counted (o .cmp) xs k ≡ 0 → counted (o .cmp) xs k ≡ counted (o .cmp) ys k
       none z = ⊎-elim (λ w. z ∙ sym w) (λ (i, l, q). there ys b i l q) (stands ys k)
+
+-- one key more for which there is room
+pub put-more : {K : Type 0} (c : K → K → Ordering) (ks : List K) (k : K) (es es′ : List (Entry K)) (room : ℕ) → es ≡ tallied c ks → answer c es k room ≡ Ok tt
+    → es′ ≡ cond (isOk (answer c es k room)) (added c es k) es → es′ ≡ tallied c (ks ++ k ∷ [])
+put-more c ks k es es′ room e fits a =
+    a ∙ ap (λ (r : Result (Unit {0}) Refusal). cond (isOk r) (added c es k) es) fits
+    ∙ ap (λ (z : List (Entry _)). added c z k) e
+    ∙ sym (tallied-push c [] ks k)

@@ -102,4 +102,13 @@ impl<'a, K: Ord + Copy> Tally<'a, K> {
             }
         }
     }
+    // The key came once more, if there is room for that; without room nothing changes.
+    pub fn put(&mut self, key: K)
+        ensures after { λ _. ⌜ ((o : Total (K·Ord .orders)) → take (now (self .exit) .len) (now (now (self .exit) .entries)) ≡ cond (isOk (answer (o .cmp) (take (now (self .entry) .len) (now (now (self .entry) .entries))) key (length (now (now (self .entry) .entries))))) (added (o .cmp) (take (now (self .entry) .len) (now (now (self .entry) .entries))) key) (take (now (self .entry) .len) (now (now (self .entry) .entries)))) ⌝ }
+        ensures within { λ _. ⌜ (now (self .entry) .len ≤ length (now (now (self .entry) .entries)) → now (self .exit) .len ≤ length (now (now (self .exit) .entries))) ⌝ }
+        ensures lender { λ _. ⌜ name (now (self .exit) .entries) ≡ name (now (self .entry) .entries) ⌝ }
+        ensures room { λ _. ⌜ length (now (now (self .exit) .entries)) ≡ length (now (now (self .entry) .entries)) ⌝ }
+    {
+        let _ = self.add(key);
+    }
 }

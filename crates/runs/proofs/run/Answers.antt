@@ -1,4 +1,4 @@
--- Opening, then call after call. Assumes nothing.
+-- Opening, then call after call.
 use mathlib.Core.Path.{_≡_, refl, sym, ap, subst, subst₂, _∙_}
 use mathlib.Core.List.{List, []}
 use native.Mathlib.Omega.{arith}

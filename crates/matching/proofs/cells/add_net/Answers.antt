@@ -3,33 +3,15 @@ use mathlib.Core.List.{List, [], _∷_, _++_}
 use Prim.Native.Nat.{_+_, _<_, _≤_}
 use native.Mathlib.Omega.{arith}
 use lib.ListN.{length, getD, take}
-use Rattle.circuit.specs.Circuit.{net, parts}
-use Rattle.circuit.proofs.Masks.{part-below}
+use Rattle.circuit.specs.Circuit.{net}
 use Rattle.tally.specs.declared.table.Tally.{Tally}
 use Rattle.matching.specs.declared.cell.Cell.{Cell}
 use Rattle.tally.specs.Tallies.{tallied}
+use Rattle.tally.proofs.Counts.{put-more}
 use Rattle.matching.specs.Orders.{cells}
-use Rattle.matching.proofs.Adding.{so-far, far-room, far-more, far-same, far-all, tallied-more, fresh-yes, fresh-no, cell-is}
+use Rattle.matching.proofs.Adding.{so-far, far-room, far-more, far-same, far-all, fresh-yes, fresh-no, cell-is}
 use Rattle.matching.proofs.cells.add_net.Needs as need
 use Rattle.matching.proofs.cells.add_net.Needs.{then-mask-earlier-eq0, else-mask-earlier-eq0}
-
-pub class-at-requires : need.class-at-requires
-class-at-requires g c κs =
-    let m = g .C·Board .means (c .args .c .now) in
-    let f = getD (c .args .start .now) (c .args .i) 0 in
-    let h : c .loop-k .k < length (net m f) = omega arith in
-    subst (λ x. x < parts m) (sym (c .part-at-v .ensures)) (part-below m (g .C·Board .sound (c .args .c .now)) f (c .loop-k .k) h)
-
-pub put-requires : need.put-requires
-put-requires g c κs =
-    let m = g .C·Board .means (c .args .c .now) in
-    let s = c .args .start .now in
-    let i = c .args .i in
-    let h : c .loop-k .k < length (net m (getD s i 0)) = omega arith in
-    record {
-      within = c .loop-k .inv .0;
-      room = far-room m s i (c .loop-k .k) h _ _ _ (c .loop-k .inv .3) (omega (arith, c .pre .room, c .loop-k .inv .2)) (c .pre .low);
-    }
 
 pub loop-k-again : need.loop-k-again
 loop-k-again g c =
@@ -49,22 +31,24 @@ loop-k-again g c =
     elim (c .if-mask-earlier-eq0 .came) [
       | then-mask-earlier-eq0 w ↦
           let p = w .put .ensures in
-          let t = w .put .last .tally in
-          let q : take (t .len) (t .entries .now) ≡ tallied (cells .cmp) (so-far m s i k ++ record { class = w .class-at .result; mask = c .mask-of-mask .result } ∷ []) = tallied-more (so-far m s i k) _ _ _ (inv .3) (p .after) in
+          let cell : Cell = record { class = w .class-of-class .result; mask = c .mask-of-mask .result } in
+          let es = take (c .loop-k .tally .len) (c .loop-k .tally .entries .now) in
+          let room = length (c .loop-k .tally .entries .now) in
+          let fits = far-room m s i k h room es cell (inv .3) (omega (arith, c .pre .room, inv .2)) (c .pre .low) in
           subst T (sym (w .tally-is)) (
-            p .within,
+            p .within (inv .0),
             p .lender ∙ inv .1,
             p .room ∙ inv .2,
-            q
-                ∙ ap (λ (z : Cell). tallied (cells .cmp) (so-far m s i k ++ z ∷ [])) (cell-is m s i _ _ _ (c .mask-of-mask .ensures) (c .part-at-v .ensures) _ (w .class-at .ensures))
-                ∙ ap (tallied (cells .cmp)) (sym (far-more m s i k h (fresh-yes m s i _ _ _ (c .mask-of-mask .ensures) (c .part-at-v .ensures) l (w .if-mask-earlier-eq0 .taken)))),
+            put-more (cells .cmp) (so-far m s i k) cell es _ room (inv .3) fits (p .after cells)
+                ∙ ap (λ (z : Cell). tallied (cells .cmp) (so-far m s i k ++ z ∷ [])) (cell-is m s i _ _ _ (c .mask-of-mask .ensures) (c .part-of-v .ensures) _ (w .class-of-class .ensures))
+                ∙ ap (tallied (cells .cmp)) (sym (far-more m s i k h (fresh-yes m s i _ _ _ (c .mask-of-mask .ensures) (c .part-of-v .ensures) l (w .if-mask-earlier-eq0 .taken)))),
           )
       | else-mask-earlier-eq0 w ↦
           subst T (sym (w .tally-is)) (
             inv .0,
             inv .1,
             inv .2,
-            inv .3 ∙ ap (tallied (cells .cmp)) (sym (far-same m s i k h (fresh-no m s i _ _ _ (c .mask-of-mask .ensures) (c .part-at-v .ensures) l (w .if-mask-earlier-eq0 .left)))),
+            inv .3 ∙ ap (tallied (cells .cmp)) (sym (far-same m s i k h (fresh-no m s i _ _ _ (c .mask-of-mask .ensures) (c .part-of-v .ensures) l (w .if-mask-earlier-eq0 .left)))),
           )
     ]
 

@@ -1,7 +1,7 @@
 use mathlib.Core.Path.{sym, ap, _∙_}
 use mathlib.Core.List.{List, []}
 use native.Mathlib.Omega.{arith}
-use Rattle.boards.proofs.Marks.{at-none}
+use Rattle.circuit.proofs.Asks.{at-none}
 use Prim.Native.Nat.{ℕ}
 use Rattle.circuit.specs.Circuit.{at}
 use Rattle.boards.proofs.Marks.{hidden, shown}

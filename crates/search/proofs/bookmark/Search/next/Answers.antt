@@ -1,4 +1,4 @@
--- A call of next does what `Next` says. Assumes nothing.
+-- A call of next does what `Next` says.
 use mathlib.Core.Path.{_≡_, refl, _∙_, sym, ap, subst}
 use mathlib.Core.Bool.{Bool, true, false}
 use mathlib.Core.List.{List, _++_}

@@ -1,4 +1,4 @@
--- A search that was just opened stands at the opening, and all that is promised of it holds. Assumes nothing.
+-- A search that was just opened stands at the opening, and all that is promised of it holds.
 use mathlib.Core.Path.{_≡_, refl, sym, ap, _∙_}
 use mathlib.Core.Logic.{_⊎_, inl, inr}
 use Rattle.circuit.specs.Circuit.{N}
