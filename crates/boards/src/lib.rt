@@ -1,4 +1,6 @@
-// Board stores: the flat board over three tables, and the layer that blanks nets of any board.
+//! Board stores: the flat board over three tables, and the layer that blanks nets of any board.
+#![tactic(auto)]
+
 mod blanking;
 mod flat;
 

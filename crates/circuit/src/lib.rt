@@ -1,4 +1,6 @@
-// Circuits: refusals, the board interface, and what is proved of hits and cells.
+//! Circuits: refusals, the board interface, and what is proved of hits and cells.
+#![tactic(auto)]
+
 mod board;
 pub mod laws;
 mod refusal;

@@ -1,4 +1,5 @@
-// Tries labels, patterns and boards at both edges of every limit: a line for each case.
+//! Tries labels, patterns and boards at both edges of every limit: a line for each case.
+#![tactic(auto)]
 
 mod agreement;
 mod answers;

@@ -1,4 +1,6 @@
-// Lists five sheets of which one is replaced: a table of everything that a sheet can be refused for, at the first line and at a later one.
+//! Lists five sheets of which one is replaced: a table of everything that a sheet can be refused for, at the first line and at a later one.
+#![tactic(auto)]
+
 ghost use Rattle.std.specs.Prelude.{◌≡◌, ◌++◌, string_bytes};
 
 use anyhow::anyhow;

@@ -1,4 +1,6 @@
-// Lists every copy of the pattern in the board: the five sheets are in the folder that is the only argument, or else in the current one.
+//! Lists every copy of the pattern in the board: the five sheets are in the folder that is the only argument, or else in the current one.
+#![tactic(auto)]
+
 use anyhow::anyhow;
 use folder::list_folder;
 use listing::Outcome;

@@ -1,4 +1,6 @@
-// The five sheets of a folder, and the list of their findings on standard output.
+//! The five sheets of a folder, and the list of their findings on standard output.
+#![tactic(auto)]
+
 use anyhow::anyhow;
 use listing::{Halt, Outcome, Sink, list};
 use loading::Sheets;

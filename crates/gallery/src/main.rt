@@ -1,4 +1,6 @@
-// Lists the findings of the examples, one after another, as `findings` does for one.
+//! Lists the findings of the examples, one after another, as `findings` does for one.
+#![tactic(auto)]
+
 use folder::list_folder;
 
 fn show(rt: &HostRuntime, folder: &str) -> anyhow::Result<()> {

@@ -1,4 +1,6 @@
-// Labels of parts: two kinds, and one labelling for every kind.
+//! Labels of parts: two kinds, and one labelling for every kind.
+#![tactic(auto)]
+
 mod kinds;
 mod labelling;
 

@@ -1,4 +1,6 @@
-// The lines that are written: a names line, hits, and how it ended.
+//! The lines that are written: a names line, hits, and how it ended.
+#![tactic(auto)]
+
 ghost use Rattle.std.specs.Prelude.{◌≡◌, [], ◌∷◌, ◌++◌, IfOk, if◌then◌else◌, string_bytes, codes, decimal, nat_eq};
 ghost use Rattle.lines.specs.Back.{HitBack};
 ghost use Rattle.lines.specs.Written.{end_line, paused_line, hit_line, names_line, name_of, file_number, fault_line};

@@ -1,4 +1,6 @@
-// From the five sheets to the lines of the list.
+//! From the five sheets to the lines of the list.
+#![tactic(auto)]
+
 mod lister;
 mod output;
 mod step;

@@ -1,4 +1,6 @@
-// From five sheets to a pattern and the tables of a board.
+//! From five sheets to a pattern and the tables of a board.
+#![tactic(auto)]
+
 ghost use Rattle.std.specs.Prelude.{◌≡◌};
 
 use boards::{Blanking, FlatBoard, check};

@@ -1,4 +1,6 @@
-// Matching a start of a board's nets with a pattern's first nets.
+//! Matching a start of a board's nets with a pattern's first nets.
+#![tactic(auto)]
+
 mod agree;
 mod answer;
 mod cell;

@@ -1,4 +1,6 @@
-// The circuit that is sought.
+//! The circuit that is sought.
+#![tactic(auto)]
+
 mod checks;
 pub mod laws;
 mod pattern;

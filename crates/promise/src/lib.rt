@@ -1,4 +1,6 @@
-// The order of starts, tries, and what a search promises over any succession of calls.
+//! The order of starts, tries, and what a search promises over any succession of calls.
+#![tactic(auto)]
+
 ghost use Rattle.promise.specs.Hits.{Fit, Promised};
 ghost use Rattle.circuit.specs.Circuit.{Circuit, Sound};
 ghost use Rattle.std.specs.Prelude.{ℕ, ◌≤◌, Bool, List, length};

@@ -1,4 +1,6 @@
-// A whole succession of calls, from the opening on.
+//! A whole succession of calls, from the opening on.
+#![tactic(auto)]
+
 ghost use Rattle.std.specs.Prelude.{◌≡◌, List, length};
 ghost use Rattle.pattern.specs.Drawn.{drawn};
 ghost use Rattle.search.specs.Held.{bookmark};

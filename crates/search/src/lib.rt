@@ -1,4 +1,6 @@
-// A search: every hit of a pattern on a board, one after another, in as many calls as the caller likes.
+//! A search: every hit of a pattern on a board, one after another, in as many calls as the caller likes.
+#![tactic(auto)]
+
 mod bookmark;
 mod calls;
 

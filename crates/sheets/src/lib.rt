@@ -1,4 +1,6 @@
-// Sheets: lines of fields, read into rows or one fault.
+//! Sheets: lines of fields, read into rows or one fault.
+#![tactic(auto)]
+
 mod entry;
 mod fault;
 pub mod laws;

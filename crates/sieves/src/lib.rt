@@ -1,4 +1,6 @@
-// Sieves: they drop starts with which no hit begins.
+//! Sieves: they drop starts with which no hit begins.
+#![tactic(auto)]
+
 ghost use Rattle.std.specs.Prelude.{◌≡◌, ℕ, Bool, true, List};
 ghost use Rattle.circuit.specs.Circuit.{Circuit};
 ghost use Rattle.promise.specs.Hits.{Fit};

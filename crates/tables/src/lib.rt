@@ -1,4 +1,6 @@
-// Three tables: a class for each part, an end for each net, and the joins.
+//! Three tables: a class for each part, an end for each net, and the joins.
+#![tactic(auto)]
+
 mod faults;
 mod lists;
 

@@ -1,4 +1,6 @@
-// A tally over a lent table of entries, for every key kind with a total order.
+//! A tally over a lent table of entries, for every key kind with a total order.
+#![tactic(auto)]
+
 mod entry;
 mod ops;
 mod table;
