@@ -13,7 +13,7 @@ const BOARD_LABELS: usize = 4096;
 
 // The place of the first label alike to `own`, or the number of labels.
 fn first_alike<L: Label>(labels: &[L], own: &L) -> usize
-    ensures value { result ≡ first same labels.now own.now }
+    ensures value { result ≡ first L.same labels.now own.now }
     ensures bound { result ≤ length labels.now }
 {
     for (i, x) in labels.iter().enumerate() {
@@ -26,7 +26,7 @@ fn first_alike<L: Label>(labels: &[L], own: &L) -> usize
 
 // The place of the first label that is not fit, or the number of labels.
 fn first_unfit<L: Label>(labels: &[L]) -> usize
-    ensures value { result ≡ unfit proper labels.now }
+    ensures value { result ≡ unfit L.proper labels.now }
     ensures bound { result ≤ length labels.now }
 {
     for (at, x) in labels.iter().enumerate() {
@@ -40,7 +40,7 @@ fn first_unfit<L: Label>(labels: &[L]) -> usize
 // Pattern labels come first; a board label's place is counted from 64, past every pattern label.
 fn class_of<L: Label>(pattern: &[L], board: &[L], own: &L) -> u16
     requires { (length pattern.now ≤ 64) × (length board.now ≤ 4096) }
-    ensures { result ≡ class same pattern.now board.now own.now }
+    ensures { result ≡ class L.same pattern.now board.now own.now }
 {
     let place = first_alike(pattern, own);
     if place < pattern.len() {
@@ -52,7 +52,7 @@ fn class_of<L: Label>(pattern: &[L], board: &[L], own: &L) -> u16
 
 fn write_classes<L: Label>(pattern: &[L], board: &[L], labels: &[L], classes: &mut [u16])
     requires { (length pattern.now ≤ 64) × (length board.now ≤ 4096) × (length labels.now ≤ length classes.old) }
-    ensures { classes.new ≡ classed same pattern.now board.now labels.now classes.old }
+    ensures { classes.new ≡ classed L.same pattern.now board.now labels.now classes.old }
 {
     for (i, x) in labels.iter().enumerate() {
         classes[i] = class_of(pattern, board, x);
@@ -67,11 +67,11 @@ pub fn label_parts<L: Label>(
     pattern_classes: &mut [u16],
     board_classes: &mut [u16],
 ) -> Result<(), Refusal>
-    ensures answer { result ≡ verdict proper pattern.now board.now (length pattern_classes.old) (length board_classes.old) }
-    ensures pattern { pattern_classes.new ≡ (if is_ok result then classed same pattern.now board.now pattern.now pattern_classes.old else pattern_classes.old) }
-    ensures board { board_classes.new ≡ (if is_ok result then classed same pattern.now board.now board.now board_classes.old else board_classes.old) }
-    ensures tells { is_ok result ≡ true → Tells same pattern.now board.now }
-    ensures wrote { is_ok result ≡ true → Wrote proper same pattern.now board.now (take (length pattern.now) pattern_classes.new) (take (length board.now) board_classes.new) }
+    ensures answer { result ≡ verdict L.proper pattern.now board.now (length pattern_classes.old) (length board_classes.old) }
+    ensures pattern { pattern_classes.new ≡ (if is_ok result then classed L.same pattern.now board.now pattern.now pattern_classes.old else pattern_classes.old) }
+    ensures board { board_classes.new ≡ (if is_ok result then classed L.same pattern.now board.now board.now board_classes.old else board_classes.old) }
+    ensures tells { is_ok result ≡ true → Tells L.same pattern.now board.now }
+    ensures wrote { is_ok result ≡ true → Wrote L.proper L.same pattern.now board.now (take (length pattern.now) pattern_classes.new) (take (length board.now) board_classes.new) }
 {
     if pattern.len() > PATTERN_LABELS || board.len() > BOARD_LABELS {
         return Err(Refusal {

@@ -12,7 +12,7 @@ returns g c =
     let ps = c.args.pattern.now in
     let bs = c.args.board.now in
     let f = class g.L.Label.same ps bs in
-    let pc = c.args.pattern-classes.now in
+    let pc = c.args.pattern_classes.now in
     let bc = c.args.board-classes.now in
     let fine : Ok tt ≡ verdict proper ps bs (length pc) (length bc) = search rules in
     record {

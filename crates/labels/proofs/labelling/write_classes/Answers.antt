@@ -9,8 +9,8 @@ loop-i-preserved g c =
     let x = c.index-labels-i in
     let f = class g.L.Label.same c.args.pattern.now c.args.board.now in
     let k : c.loop-i.i < length c.args.classes.now = omega arith in
-    ap (λ t. set t c.loop-i.i c.class-of.result) c.loop-i.invariant
-    ∙ ap (set (map f (take c.loop-i.i c.args.labels.now) ++ drop c.loop-i.i c.args.classes.now) c.loop-i.i) c.class-of.ensures
+    ap (λ t. set t c.loop-i.i c.class_of.result) c.loop-i.invariant
+    ∙ ap (set (map f (take c.loop-i.i c.args.labels.now) ++ drop c.loop-i.i c.args.classes.now) c.loop-i.i) c.class_of.ensures
     ∙ written_more f c.args.labels.now c.args.classes.now c.loop-i.i x.result c.loop-i-test.true k x.is
 
 pub returns : goal.returns

@@ -14,7 +14,7 @@ returns c =
     let js = c.args.joins.now in
     let f = c.args.f in
     let to : c.min-to.result ≡ min (get_or es f 0) (length js) = c.min-to.ensures in
-    let from : c.min-from.result ≡ min (start es f) (min (get_or es f 0) (length js)) = c.min-from.ensures ∙ ap (λ (x : ℕ). min x c.min-to.result) c.start-of.ensures ∙ ap (min (start es f)) to in
+    let from : c.min-from.result ≡ min (start es f) (min (get_or es f 0) (length js)) = c.min-from.ensures ∙ ap (λ (x : ℕ). min x c.min-to.result) c.start_of.ensures ∙ ap (min (start es f)) to in
     record {
       list = λ classes.
           ap (λ (x : ℕ). take (x - c.min-from.result) (drop c.min-from.result js)) to

@@ -8,8 +8,8 @@ returns-in-None c =
     let es = c.args.ends.now in
     let js = c.args.joins.now in
     let n = c.args.n in
-    let spans : Spans c.args.least es = λ f h. c.first-short-f.ensures.before f (omega arith) in
-    let closes : Closes es js = sym c.start-of.ensures ∙ c.if-start-of-joins.false in
+    let spans : Spans c.args.least es = λ f h. c.first_short-f.ensures.before f (omega arith) in
+    let closes : Closes es js = sym c.start_of.ensures ∙ c.if-start_of-joins.false in
     let rises = rises_from_spans c.args.least es spans in
     record {
       spans = spans;

@@ -29,19 +29,19 @@ returns-then-k-to c =
     let js = c.args.joins.now in
     let n = c.args.n in
     let f = c.loop-f.f in
-    let k = c.stray-in-k.result in
-    let e : c.start-of.result ≡ start es f = c.start-of.ensures in
+    let k = c.stray_in-k.result in
+    let e : c.start_of.result ≡ start es f = c.start_of.ensures in
     let F : ℕ → Type 0 = λ b. Fine n js b k in
     record {
       net = f;
       there = c.loop-f-test.true;
-      from = omega (arith, e, c.stray-in-k.ensures.low);
+      from = omega (arith, e, c.stray_in-k.ensures.low);
       to = c.if-k-to.true;
-      bad = λ q. c.stray-in-k.ensures.found c.if-k-to.true (subst F (sym e) q);
+      bad = λ q. c.stray_in-k.ensures.found c.if-k-to.true (subst F (sym e) q);
       earlier = λ g j there lo hi lt.
           ⊎_elim
           (λ (q : f < g). let m : get_or (0 ∷ es) (suc f) 0 ≤ get_or (0 ∷ es) g 0 = rising 0 es (suc f) g c.requires.rises (omega arith) (omega arith) in let z : ⊥ = omega (arith, m, c.if-k-to.true) in elim z [ ])
-          (λ q. earlier n es js f k c.start-of.result c.requires.rises c.loop-f-test.true e c.loop-f.invariant c.stray-in-k.ensures.before g j q lo hi (λ _. lt))
+          (λ q. earlier n es js f k c.start_of.result c.requires.rises c.loop-f-test.true e c.loop-f.invariant c.stray_in-k.ensures.before g j q lo hi (λ _. lt))
           (cases_lt f g);
     }
 
@@ -49,4 +49,4 @@ pub loop-f-preserved : goal.loop-f-preserved
 loop-f-preserved c =
     let es = c.args.ends.now in
     let f = c.loop-f.f in
-    λ g j h lo hi. earlier c.args.n es c.args.joins.now f c.stray-in-k.result c.start-of.result c.requires.rises c.loop-f-test.true c.start-of.ensures c.loop-f.invariant c.stray-in-k.ensures.before g j (omega arith) lo hi (λ q. let m : get_or es g 0 ≡ get_or es f 0 = ap (λ i. get_or es i 0) q in omega (arith, m, c.if-k-to.false))
+    λ g j h lo hi. earlier c.args.n es c.args.joins.now f c.stray_in-k.result c.start_of.result c.requires.rises c.loop-f-test.true c.start_of.ensures c.loop-f.invariant c.stray_in-k.ensures.before g j (omega arith) lo hi (λ q. let m : get_or es g 0 ≡ get_or es f 0 = ap (λ i. get_or es i 0) q in omega (arith, m, c.if-k-to.false))

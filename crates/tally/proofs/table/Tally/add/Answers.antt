@@ -15,7 +15,7 @@ pub raise-requires : goal.raise-requires
 raise-requires g c =
     let s = c.args.self.now in
     let (b, inside) = below_both c.in-Ok.at s.len s.entries.now c.in-Ok.ensures.bound in
-    (inside, λ d. let e : c.count-at.result ≡ (get_or s.entries.now c.in-Ok.at d).count = c.count-at.ensures d ∙ ap (λ (z : Entry g.row.K.Denot). z.count) (get_or-take s.len s.entries.now c.in-Ok.at d b) in omega (arith, e, c.count-at.type-inv))
+    (inside, λ d. let e : c.count_at.result ≡ (get_or s.entries.now c.in-Ok.at d).count = c.count_at.ensures d ∙ ap (λ (z : Entry g.row.K.Denot). z.count) (get_or-take s.len s.entries.now c.in-Ok.at d b) in omega (arith, e, c.count_at.type_inv))
 
 pub returns-then-count-at : goal.returns-then-count-at
 returns-then-count-at g c =
