@@ -15,7 +15,7 @@ returns-then-classes-gt4096 c =
 
 pub returns-in-Some : goal.returns-in-Some
 returns-in-Some c =
-    refused_for c.args.classes.now c.args.ends.now c.args.joins.now c.in-Some.misfit c.refusal-of.result c.refusal-of.ensures
+    refused_for c.args.classes.now c.args.ends.now c.args.joins.now c.in-Some.misfit c.refusal_of.result c.refusal_of.ensures
     (record { few_parts = omega arith; few_nets = omega arith; few_joins = omega arith }) c.in-Some.ensures
 
 pub returns-in-None : goal.returns-in-None

@@ -13,7 +13,7 @@ returns g c =
     let bs = c.args.board.now in
     let f = class g.L.Label.same ps bs in
     let pc = c.args.pattern_classes.now in
-    let bc = c.args.board-classes.now in
+    let bc = c.args.board_classes.now in
     let fine : Ok tt ≡ verdict proper ps bs (length pc) (length bc) = search rules in
     record {
       answer = fine;
@@ -24,7 +24,7 @@ returns g c =
       wrote = λ _. record {
         room = (length pc, length bc);
         answered = sym fine;
-        pattern = ap (take (length ps)) c.write-classes.ensures ∙ take_at (map f ps) (drop (length ps) pc) (length ps) (length-map ps f);
-        board = ap (take (length bs)) c.write-classes-2.ensures ∙ take_at (map f bs) (drop (length bs) bc) (length bs) (length-map bs f);
+        pattern = ap (take (length ps)) c.write_classes.ensures ∙ take_at (map f ps) (drop (length ps) pc) (length ps) (length-map ps f);
+        board = ap (take (length bs)) c.write_classes-2.ensures ∙ take_at (map f bs) (drop (length bs) bc) (length bs) (length-map bs f);
       };
     }

@@ -25,7 +25,7 @@ loop-out-smaller-in-Found g c =
     let b = g.B.Board.means c.args.board.now in
     let (n, row, asked, x) = c.in-Found.ensures in
     found_falls g.W.Sink.writes p b (looked_up c.open-search.new.sieve.fits) (nets_some c.args.pattern.now) c.args.out.now c.loop-out.out
-    (bookmark (N p) (N b) c.loop-out.search) (bookmark (N p) (N b) c.next-line.new.search) c.loop-out.invariant.0 n row asked
+    (bookmark (N p) (N b) c.loop-out.search) (bookmark (N p) (N b) c.next_line.new.search) c.loop-out.invariant.0 n row asked
 
 pub loop-out-preserved-in-Found : goal.loop-out-preserved-in-Found
 loop-out-preserved-in-Found g c =
@@ -33,7 +33,7 @@ loop-out-preserved-in-Found g c =
     let b = g.B.Board.means c.args.board.now in
     let (n, row, asked, x) = c.in-Found.ensures in (
       found_more g.W.Sink.writes p b (looked_up c.open-search.new.sieve.fits) c.args.out.now c.loop-out.out _
-          (bookmark (N p) (N b) c.loop-out.search) (bookmark (N p) (N b) c.next-line.new.search) c.loop-out.invariant.0 n row asked x,
+          (bookmark (N p) (N b) c.loop-out.search) (bookmark (N p) (N b) c.next_line.new.search) c.loop-out.invariant.0 n row asked x,
       c.loop-out.invariant.1,
     )
 
@@ -43,20 +43,20 @@ returns-in-Done g c =
     let b = g.B.Board.means c.args.board.now in
     let w = g.W.Sink.writes in
     let (n, row, asked, e) = c.in-Done.ensures in
-    done w p b (looked_up c.open-search.new.sieve.fits) c.open-search.ensures.promise c.put-last.result c.args.out.now c.loop-out.out _ _
-    (bookmark (N p) (N b) c.loop-out.search) (bookmark (N p) (N b) c.next-line.new.search) c.loop-out.invariant.0 n row asked e
-    (last_known w c.put-last.result c.end-line.result string_bytes end_line _ _ Ended c.end-line.ensures c.put-last.ensures)
+    done w p b (looked_up c.open-search.new.sieve.fits) c.open-search.ensures.promise c.put_last.result c.args.out.now c.loop-out.out _ _
+    (bookmark (N p) (N b) c.loop-out.search) (bookmark (N p) (N b) c.next_line.new.search) c.loop-out.invariant.0 n row asked e
+    (last_known w c.put_last.result c.end_line.result string_bytes end_line _ _ Ended c.end_line.ensures c.put_last.ensures)
 
-pub returns-then-pauses-eq-MOST-PAUSES : goal.returns-then-pauses-eq-MOST-PAUSES
-returns-then-pauses-eq-MOST-PAUSES g c =
+pub returns-then-pauses-eq-MOST_PAUSES : goal.returns-then-pauses-eq-MOST_PAUSES
+returns-then-pauses-eq-MOST_PAUSES g c =
     let p = drawn c.args.pattern.now in
     let b = g.B.Board.means c.args.board.now in
     let w = g.W.Sink.writes in
     let keeps = looked_up c.open-search.new.sieve.fits in
     let (n, row, asked, e) = c.in-Rested.ensures in
-    let so = rested_more w p b keeps c.args.out.now c.loop-out.out _ (bookmark (N p) (N b) c.loop-out.search) (bookmark (N p) (N b) c.next-line.new.search) c.loop-out.invariant.0 n row asked e in
-    broken_off w p b keeps c.open-search.ensures.promise c.put-last-then-pauses-eq-MOST-PAUSES.result c.args.out.now _ _ (bookmark (N p) (N b) c.next-line.new.search) so
-    (last_known w c.put-last-then-pauses-eq-MOST-PAUSES.result c.paused-line.result string_bytes paused_line _ _ Paused c.paused-line.ensures c.put-last-then-pauses-eq-MOST-PAUSES.ensures)
+    let so = rested_more w p b keeps c.args.out.now c.loop-out.out _ (bookmark (N p) (N b) c.loop-out.search) (bookmark (N p) (N b) c.next_line.new.search) c.loop-out.invariant.0 n row asked e in
+    broken_off w p b keeps c.open-search.ensures.promise c.put_last-then-pauses-eq-MOST_PAUSES.result c.args.out.now _ _ (bookmark (N p) (N b) c.next_line.new.search) so
+    (last_known w c.put_last-then-pauses-eq-MOST_PAUSES.result c.paused_line.result string_bytes paused_line _ _ Paused c.paused_line.ensures c.put_last-then-pauses-eq-MOST_PAUSES.ensures)
 
 pub loop-out-smaller : goal.loop-out-smaller
 loop-out-smaller g c =
@@ -64,7 +64,7 @@ loop-out-smaller g c =
     let b = g.B.Board.means c.args.board.now in
     let (n, row, asked, x) = c.in-Rested.ensures in
     rested_falls g.W.Sink.writes p b (looked_up c.open-search.new.sieve.fits) (nets_some c.args.pattern.now) c.args.out.now c.loop-out.out
-    (bookmark (N p) (N b) c.loop-out.search) (bookmark (N p) (N b) c.next-line.new.search) c.loop-out.invariant.0 n row asked
+    (bookmark (N p) (N b) c.loop-out.search) (bookmark (N p) (N b) c.next_line.new.search) c.loop-out.invariant.0 n row asked
 
 pub loop-out-preserved : goal.loop-out-preserved
 loop-out-preserved g c =
@@ -72,6 +72,6 @@ loop-out-preserved g c =
     let b = g.B.Board.means c.args.board.now in
     let (n, row, asked, e) = c.in-Rested.ensures in (
       rested_more g.W.Sink.writes p b (looked_up c.open-search.new.sieve.fits) c.args.out.now c.loop-out.out _
-          (bookmark (N p) (N b) c.loop-out.search) (bookmark (N p) (N b) c.next-line.new.search) c.loop-out.invariant.0 n row asked e,
+          (bookmark (N p) (N b) c.loop-out.search) (bookmark (N p) (N b) c.next_line.new.search) c.loop-out.invariant.0 n row asked e,
       omega arith,
     )

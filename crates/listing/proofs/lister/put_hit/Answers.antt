@@ -7,8 +7,8 @@ use Rattle.listing.proofs.lister.put_hit.Goals as goal
 
 pub returns : goal.returns
 returns g c =
-    let m : c.net-count-m.result - 0 ≡ N (drawn c.args.pattern.now) = omega (arith, c.net-count-m.ensures.value) in
-    let line : IfOk c.hit-line.result (λ s. string_bytes s ≡ hit_line (take (N (drawn c.args.pattern.now)) c.args.row.now)) =
-    subst (λ (n : ℕ). IfOk c.hit-line.result (λ s. string_bytes s ≡ hit_line (take n c.args.row.now))) m c.hit-line.ensures
+    let m : c.net_count-m.result - 0 ≡ N (drawn c.args.pattern.now) = omega (arith, c.net_count-m.ensures.value) in
+    let line : IfOk c.hit_line.result (λ s. string_bytes s ≡ hit_line (take (N (drawn c.args.pattern.now)) c.args.row.now)) =
+    subst (λ (n : ℕ). IfOk c.hit_line.result (λ s. string_bytes s ≡ hit_line (take n c.args.row.now))) m c.hit_line.ensures
     in
-    put_known g.W.Sink.writes c.put.result c.hit-line.result string_bytes _ _ _ line c.put.ensures
+    put_known g.W.Sink.writes c.put.result c.hit_line.result string_bytes _ _ _ line c.put.ensures

@@ -27,7 +27,7 @@ loop-k-preserved g c =
     elim c.if-mask-earlier-eq0.branch [
       | then-mask-earlier-eq0 w ↦
           let p = w.put.ensures in
-          let cell : Cell = record { class = w.class-of-class.result; mask = c.mask-of-mask.result } in
+          let cell : Cell = record { class = w.class_of-class.result; mask = c.mask_of-mask.result } in
           let es = take c.loop-k.tally.len c.loop-k.tally.entries.now in
           let room = length c.loop-k.tally.entries.now in
           let fits = far-room m s i k h room es cell inv.3 (omega (arith, c.requires.room, inv.2)) c.requires.low in
@@ -36,15 +36,15 @@ loop-k-preserved g c =
             p.lender ∙ inv.1,
             p.room ∙ inv.2,
             put_more cells.cmp (so_far m s i k) cell es _ room inv.3 fits (p.after cells)
-                ∙ ap (λ (z : Cell). tallied cells.cmp (so_far m s i k ++ z ∷ [])) (cell_is m s i _ _ _ c.mask-of-mask.ensures c.part-of-v.ensures _ w.class-of-class.ensures)
-                ∙ ap (tallied cells.cmp) (sym (far-more m s i k h (fresh_yes m s i _ _ _ c.mask-of-mask.ensures c.part-of-v.ensures l w.if-mask-earlier-eq0.true))),
+                ∙ ap (λ (z : Cell). tallied cells.cmp (so_far m s i k ++ z ∷ [])) (cell_is m s i _ _ _ c.mask_of-mask.ensures c.part_of-v.ensures _ w.class_of-class.ensures)
+                ∙ ap (tallied cells.cmp) (sym (far-more m s i k h (fresh_yes m s i _ _ _ c.mask_of-mask.ensures c.part_of-v.ensures l w.if-mask-earlier-eq0.true))),
           )
       | else-mask-earlier-eq0 w ↦
           subst T (sym w.tally-is) (
             inv.0,
             inv.1,
             inv.2,
-            inv.3 ∙ ap (tallied cells.cmp) (sym (far_same m s i k h (fresh_no m s i _ _ _ c.mask-of-mask.ensures c.part-of-v.ensures l w.if-mask-earlier-eq0.false))),
+            inv.3 ∙ ap (tallied cells.cmp) (sym (far_same m s i k h (fresh_no m s i _ _ _ c.mask_of-mask.ensures c.part_of-v.ensures l w.if-mask-earlier-eq0.false))),
           )
     ]
 

@@ -5,8 +5,8 @@ use Rattle.matching.specs.Keys.{keys}
 use Rattle.matching.proofs.Adding.{sizes_up}
 use Rattle.matching.proofs.cells.tally_cells.Goals as goal
 
-pub add-net-requires : goal.add-net-requires
-add-net-requires g c =
+pub add_net-requires : goal.add_net-requires
+add_net-requires g c =
     let m = g.C.Board.means c.args.c.now in
     let s = c.args.start.now in
     let i = c.loop-i.i in
@@ -27,5 +27,5 @@ loop-i-preserved g c =
     let s = c.args.start.now in
     let i = c.loop-i.i in
     let inv = c.loop-i.invariant in
-    let p = c.add-net.ensures in
+    let p = c.add_net.ensures in
     (p.within, p.lender ∙ inv.1, p.room ∙ inv.2, p.after ∙ ap (λ (n : ℕ). tallied cells.cmp (keys m s n)) (sym (add-one i)))

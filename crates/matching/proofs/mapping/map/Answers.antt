@@ -13,15 +13,15 @@ returns-then-i-tuple g c =
     let p = drawn c.args.p.now in
     let b = g.B.Board.means c.args.b.now in
     let t = c.args.tuple.now in
-    let e : c.first-past-i.result ≡ past (N b) t = c.first-past-i.ensures ∙ ap (λ (n : ℕ). past n t) c.nets-2.ensures in
+    let e : c.first_past-i.result ≡ past (N b) t = c.first_past-i.ensures ∙ ap (λ (n : ℕ). past n t) c.nets-2.ensures in
     record {
       answer = ap (refuse TupleNet) e ∙ verdict_net p b t (length c.args.out.now) (length c.args.taken.now) (c.if-tuple-nets.false ∙ c.nets.ensures) (omega (arith, e, c.if-i-tuple.true));
       out = search rules;
       cleared = search rules;
     }
 
-pub place-all-requires : goal.place-all-requires
-place-all-requires g c =
+pub place_all-requires : goal.place_all-requires
+place_all-requires g c =
     let p = drawn c.args.p.now in
     let b = g.B.Board.means c.args.b.now in
     let t = c.args.tuple.now in
@@ -42,11 +42,11 @@ returns g c =
     let t = c.args.tuple.now in
     let a = c.over-guard.ensures.after in
     let q : length c.over-guard.result.bytes.now ≡ length c.args.taken.now = ap length a ∙ length-replicate (length c.args.taken.now) 0 in
-    let e : c.first-past-i.result ≡ past (N b) t = c.first-past-i.ensures ∙ ap (λ (n : ℕ). past n t) c.nets-2.ensures in
+    let e : c.first_past-i.result ≡ past (N b) t = c.first_past-i.ensures ∙ ap (λ (n : ℕ). past n t) c.nets-2.ensures in
     record {
       answer = verdict-hit p b t (length c.args.out.now) (length c.args.taken.now) (c.if-tuple-nets.false ∙ c.nets.ensures)
           (omega (arith, e, c.if-i-tuple.false)) (omega (arith, c.parts.ensures, c.if-out-parts.false)) (omega (arith, q, c.parts-2.ensures, c.len.ensures, c.if-len-parts.false))
           (sym c.if-not-fits.ensures);
-      out = c.place-all.ensures.out;
+      out = c.place_all.ensures.out;
       cleared = search rules;
     }

@@ -21,8 +21,8 @@ returns-then-classes-eq0 c = elim c.then-classes-eq0.branch [
 
 pub returns-then-v-classes : goal.returns-then-v-classes
 returns-then-v-classes c =
-    loose_part c.first-loose-v.result (record { some_nets = omega arith; few_nets = omega arith; some_parts = omega arith; few_parts = omega arith }) c.in-default.ensures c.if-v-classes.true
-    c.first-loose-v.ensures.before (c.first-loose-v.ensures.found (omega arith))
+    loose_part c.first_loose-v.result (record { some_nets = omega arith; few_nets = omega arith; some_parts = omega arith; few_parts = omega arith }) c.in-default.ensures c.if-v-classes.true
+    c.first_loose-v.ensures.before (c.first_loose-v.ensures.found (omega arith))
 
 pub returns : goal.returns
 returns c =
@@ -36,7 +36,7 @@ returns c =
       closes = fits.closes;
       climbs = fits.climbs;
       under = fits.under;
-      covers = λ v h. c.first-loose-v.ensures.before v (omega arith);
+      covers = λ v h. c.first_loose-v.ensures.before v (omega arith);
     }
 
 -- a wrong end or join is refused as the definition has it
@@ -49,5 +49,5 @@ refused_for classes ends joins (Join k) e is lim w =
 
 pub returns-in-Some : goal.returns-in-Some
 returns-in-Some c =
-    refused_for c.args.classes.now c.args.ends.now c.args.joins.now c.in-Some.misfit c.refusal-of.result c.refusal-of.ensures
+    refused_for c.args.classes.now c.args.ends.now c.args.joins.now c.in-Some.misfit c.refusal_of.result c.refusal_of.ensures
     (record { some_nets = omega arith; few_nets = omega arith; some_parts = omega arith; few_parts = omega arith }) c.in-Some.ensures

@@ -6,7 +6,7 @@ use Rattle.sheets.proofs.Pieces.{front_within, front_more}
 use Rattle.sheets.proofs.nets.net_ends.Goals as goal
 
 pub overflow-cast-at : goal.overflow-cast-at
-overflow-cast-at c = omega (arith, front_within c.loop-net.net c.args.rows.now, c.end-from-at.ensures)
+overflow-cast-at c = omega (arith, front_within c.loop-net.net c.args.rows.now, c.end_from-at.ensures)
 
 pub loop-net-preserved : goal.loop-net-preserved
 loop-net-preserved c =
@@ -14,8 +14,8 @@ loop-net-preserved c =
     let f = c.loop-net.net in
     let more = front_more f (f + 1) rows (omega arith) in (
       c.in-ok-push.ensures.items
-          ∙ ap (λ es. es ++ c.end-from-at.result ∷ []) c.loop-net.invariant.0
-          ∙ ap (λ e. map (λ k. front k rows) (range_with_len 0 f) ++ e ∷ []) c.end-from-at.ensures
+          ∙ ap (λ es. es ++ c.end_from-at.result ∷ []) c.loop-net.invariant.0
+          ∙ ap (λ e. map (λ k. front k rows) (range_with_len 0 f) ++ e ∷ []) c.end_from-at.ensures
           ∙ sym (map-range_with_len_more (λ k. front k rows) 0 f f (omega arith)),
-      omega (arith, more, c.end-from-at.ensures),
+      omega (arith, more, c.end_from-at.ensures),
     )

@@ -10,13 +10,13 @@ returns-then-not-is-ascii-digit c =
 
 pub overflow-mul-n : goal.overflow-mul-n
 overflow-mul-n c =
-    let few = c.if-not-is-shaped.ensures.bound refl in
+    let few = c.if-not-is_shaped.ensures.bound refl in
     let b = digit_more c.loop-i.n c.loop-i.i 0 c.loop-i.invariant.0 (omega arith) in
     omega (arith, within_nine (c.loop-i.i + 1) (omega arith))
 
 pub overflow-add-n : goal.overflow-add-n
 overflow-add-n c =
-    let few = c.if-not-is-shaped.ensures.bound refl in
+    let few = c.if-not-is_shaped.ensures.bound refl in
     let low = digit_low (get_or c.args.bytes.now c.loop-i.i 0) (sym c.if-not-is-ascii-digit.ensures.value) in
     let b = digit_more c.loop-i.n c.loop-i.i c.from.result c.loop-i.invariant.0 (omega arith) in
     omega (arith, within_nine (c.loop-i.i + 1) (omega arith))
@@ -40,4 +40,4 @@ returns c =
     let i = c.loop-i.i in
     let all = all_all s i (omega arith) in
     let end = value_all s i c.loop-i.n (omega arith) in
-    a_number s c.loop-i.n (sym c.if-not-is-shaped.ensures.value) (sym c.loop-i.invariant.2 ∙ all) (sym c.loop-i.invariant.1 ∙ end)
+    a_number s c.loop-i.n (sym c.if-not-is_shaped.ensures.value) (sym c.loop-i.invariant.2 ∙ all) (sym c.loop-i.invariant.1 ∙ end)

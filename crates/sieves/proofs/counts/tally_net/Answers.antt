@@ -18,12 +18,12 @@ loop-k-preserved g c =
     let es = take c.loop-k.tally.len c.loop-k.tally.entries.now in
     let room = length c.loop-k.tally.entries.now in
     let h : k < length (net m f) = omega arith in
-    let cls : c.class-of.result ≡ class m (get_or (net m f) k 0) = c.class-of.ensures ∙ ap (class m) c.part-of.ensures in
-    let fits = so_far_room m f k h room es c.class-of.result inv.3 (omega (arith, c.requires, inv.2, ap length c.over-tally.ensures.room)) (omega (arith, c.size-k-end.type-inv)) in (
+    let cls : c.class_of.result ≡ class m (get_or (net m f) k 0) = c.class_of.ensures ∙ ap (class m) c.part_of.ensures in
+    let fits = so_far_room m f k h room es c.class_of.result inv.3 (omega (arith, c.requires, inv.2, ap length c.over-tally.ensures.room)) (omega (arith, c.size-k-end.type-inv)) in (
       p.within inv.0,
       p.lender ∙ inv.1,
       p.room ∙ inv.2,
-      put_more nat_cmp (map (class m) (take k (net m f))) c.class-of.result es _ room inv.3 fits (p.after nat_cmp_total)
+      put_more nat_cmp (map (class m) (take k (net m f))) c.class_of.result es _ room inv.3 fits (p.after nat_cmp_total)
           ∙ ap (λ (x : ℕ). tallied nat_cmp (map (class m) (take k (net m f)) ++ x ∷ [])) cls
           ∙ ap (tallied nat_cmp) (sym (so_far_more m f k h)),
     )

@@ -3,8 +3,8 @@ use Rattle.circuit.specs.Circuit.{member}
 use Rattle.boards.proofs.Marks.{hidden, shown}
 use Rattle.boards.proofs.blanking.BlankingBoard.on.Goals as goal
 
-pub returns-then-not-is-blank : goal.returns-then-not-is-blank
-returns-then-not-is-blank g c = c.on.ensures ∙ sym (ap (λ (xs : List ℕ). member xs c.args.v) (shown c.args.self.now.marks _ c.args.f (sym c.if-not-is-blank.ensures)))
+pub returns-then-not-is_blank : goal.returns-then-not-is_blank
+returns-then-not-is_blank g c = c.on.ensures ∙ sym (ap (λ (xs : List ℕ). member xs c.args.v) (shown c.args.self.now.marks _ c.args.f (sym c.if-not-is_blank.ensures)))
 
-pub returns-else-not-is-blank : goal.returns-else-not-is-blank
-returns-else-not-is-blank g c = ap not c.if-not-is-blank.false ∙ sym (ap (λ (xs : List ℕ). member xs c.args.v) (hidden c.args.self.now.marks _ c.args.f (sym c.if-not-is-blank.ensures)))
+pub returns-else-not-is_blank : goal.returns-else-not-is_blank
+returns-else-not-is_blank g c = ap not c.if-not-is_blank.false ∙ sym (ap (λ (xs : List ℕ). member xs c.args.v) (hidden c.args.self.now.marks _ c.args.f (sym c.if-not-is_blank.ensures)))

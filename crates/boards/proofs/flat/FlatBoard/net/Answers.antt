@@ -11,8 +11,8 @@ returns c =
     let js = s.joins.now in
     let f = c.args.f in
     record {
-      list = c.net-list.ensures.list s.classes.now;
-      place = c.net-list.ensures.place ∙ ⊎_elim
+      list = c.net_list.ensures.list s.classes.now;
+      place = c.net_list.ensures.place ∙ ⊎_elim
           (λ (h : f < length es).
           let t = lt-ltb f (length es) h in
           let r = s.rises f h in

@@ -8,21 +8,21 @@ use Rattle.pattern.specs.Drawn.{drawn}
 use Rattle.pattern.specs.Kept.{drawn_sound, nets_few, parts_few}
 use Rattle.matching.proofs.start.CellTest.holds.Goals as goal
 
-pub returns-then-start-net-count : goal.returns-then-start-net-count
-returns-then-start-net-count g c =
+pub returns-then-start-net_count : goal.returns-then-start-net_count
+returns-then-start-net_count g c =
     let p = drawn c.args.p.now in
     let b = g.B.Board.means c.args.b.now in
     let s = c.args.start.now in
-    let long : N p < length s = omega (arith, c.net-count.ensures.value) in
+    let long : N p < length s = omega (arith, c.net_count.ensures.value) in
     record {
       rule = sym (ap (λ (t : Bool). t && meets_cell_rule p (length s) b s) (lt-leb (length s) (N p) long));
       hit = λ short below distinct. absurd (omega arith);
     }
 
-pub cells-agree-requires : goal.cells-agree-requires
-cells-agree-requires g c =
+pub cells_agree-requires : goal.cells_agree-requires
+cells_agree-requires g c =
     record {
-      short = omega (arith, c.net-count.ensures.few);
+      short = omega (arith, c.net_count.ensures.few);
       few = parts_few c.args.p.now;
       pattern-room = omega arith;
       board-room = omega arith;
@@ -33,11 +33,11 @@ returns g c =
     let p = drawn c.args.p.now in
     let b = g.B.Board.means c.args.b.now in
     let s = c.args.start.now in
-    let fits : length s ≤ N p = omega (arith, c.net-count.ensures.value) in
+    let fits : length s ≤ N p = omega (arith, c.net_count.ensures.value) in
     record {
-      rule = c.cells-agree.ensures ∙ sym (ap (λ (t : Bool). t && meets_cell_rule p (length s) b s) (le-leb (length s) (N p) fits));
+      rule = c.cells_agree.ensures ∙ sym (ap (λ (t : Bool). t && meets_cell_rule p (length s) b s) (le-leb (length s) (N p) fits));
       hit = λ short below distinct.
           let w = cell-rule p b (drawn_sound c.args.p.now) (g.B.Board.sound c.args.b.now) (length s) s refl below distinct in
-          Decides-at c.cells-agree.result (meets_cell_rule p (length s) b s) c.cells-agree.ensures
+          Decides-at c.cells_agree.result (meets_cell_rule p (length s) b s) c.cells_agree.ensures
           (Decides-like (meets_cell_rule p (length s) b s) w.1 w.0 (cell_rule_decided p (length s) b s));
     }

@@ -14,9 +14,9 @@ use Rattle.search.proofs.bookmark.Search.next.Goals.{else-pass-via-then-pass+els
 pub loop-made-init : goal.loop-made-init
 loop-made-init g c =
     let q = c.args.self.now in
-    let m = c.net-count-m.result in
-    let n = c.nets-of-nets.result in
-    let e : is_start m n q ≡ true = sym c.if-not-is-start.ensures in
+    let m = c.net_count-m.result in
+    let n = c.nets_of-nets.result in
+    let e : is_start m n q ≡ true = sym c.if-not-is_start.ensures in
     let w = start_sits m n q e in
     (sits_bookmark m n q w.0 (omega (arith, w.0.few)), w.0, w.1, refl, omega arith)
 
@@ -25,8 +25,8 @@ returns-then-self-m g c =
     let p = drawn c.args.pattern.now in
     let b = g.B.Board.means c.args.board.now in
     let keeps = g.S.Sieve.keeps c.args.sieve.now p b in
-    let m = c.net-count-m.result in
-    let n = c.nets-of-nets.result in
+    let m = c.net_count-m.result in
+    let n = c.nets_of-nets.result in
     let q = c.loop-made.self in
     let inv = c.loop-made.invariant in
     let small : q.len ≤ 16 = omega (arith, inv.1.few) in
@@ -34,7 +34,7 @@ returns-then-self-m g c =
     let is_m : q.len ≡ m = c.if-self-m.true in
     let q' = c.advance.new.self in
     let pass-is : c.passes-pass.result ≡ passing p b keeps (held q) = c.passes-pass.ensures ∙ ap (passing p b keeps) c.numbers-numbers.ensures in
-    called_at p b (drawn_sound c.args.pattern.now) (g.B.Board.sound c.args.board.now) keeps m n c.net-count-m.ensures.value c.nets-of-nets.ensures.value (omega arith)
+    called_at p b (drawn_sound c.args.pattern.now) (g.B.Board.sound c.args.board.now) keeps m n c.net_count-m.ensures.value c.nets_of-nets.ensures.value (omega arith)
     c.args.self.now _ _ _ q' _ (
       (omega arith, omega arith),
       omega arith,
@@ -46,7 +46,7 @@ returns-then-self-m g c =
         subst (Quiet (rules m n (passing p b keeps)) c.loop-made.made (bookmark m n c.args.self.now)) (standing_some (held q) (omega arith)) inv.0,
         (sym pass-is ∙ c.if-pass.true, long ∙ is_m),
         sits_bookmark m n q' c.advance.ensures.sits (omega (arith, c.advance.ensures.sits.few)) ∙ c.advance.ensures.stands ∙ sym (raise_moves m n c.passes-pass.result (held q) (inr (omega arith))),
-        let copied = c.copy-from-slice.ensures.after in let same = inv.3 in let held-is = c.numbers-numbers.ensures in cc,
+        let copied = c.copy_from_slice.ensures.after in let same = inv.3 in let held-is = c.numbers-numbers.ensures in cc,
       ),
     )
 
@@ -55,8 +55,8 @@ returns-then-self-eq0 g c =
     let p = drawn c.args.pattern.now in
     let b = g.B.Board.means c.args.board.now in
     let keeps = g.S.Sieve.keeps c.args.sieve.now p b in
-    let m = c.net-count-m.result in
-    let n = c.nets-of-nets.result in
+    let m = c.net_count-m.result in
+    let n = c.nets_of-nets.result in
     let q = c.loop-made.self in
     let inv = c.loop-made.invariant in
     let small : q.len ≤ 16 = omega (arith, inv.1.few) in
@@ -68,7 +68,7 @@ returns-then-self-eq0 g c =
     elim c.else-pass.branch
     [ else-pass-via-then-pass+else-self-m w ↦ inr (λ e. w.if-self-m.false (sym long ∙ e)) | else-pass-via-else-pass w ↦ inl w.if-pass.false ]
     in
-    called_at p b (drawn_sound c.args.pattern.now) (g.B.Board.sound c.args.board.now) keeps m n c.net-count-m.ensures.value c.nets-of-nets.ensures.value (omega arith)
+    called_at p b (drawn_sound c.args.pattern.now) (g.B.Board.sound c.args.board.now) keeps m n c.net_count-m.ensures.value c.nets_of-nets.ensures.value (omega arith)
     c.args.self.now _ _ _ q' _ (
       (omega arith, omega arith),
       omega arith,
@@ -85,8 +85,8 @@ loop-made-preserved g c =
     let p = drawn c.args.pattern.now in
     let b = g.B.Board.means c.args.board.now in
     let keeps = g.S.Sieve.keeps c.args.sieve.now p b in
-    let m = c.net-count-m.result in
-    let n = c.nets-of-nets.result in
+    let m = c.net_count-m.result in
+    let n = c.nets_of-nets.result in
     let q = c.loop-made.self in
     let inv = c.loop-made.invariant in
     let small : q.len ≤ 16 = omega (arith, inv.1.few) in
@@ -110,8 +110,8 @@ returns g c =
     let p = drawn c.args.pattern.now in
     let b = g.B.Board.means c.args.board.now in
     let keeps = g.S.Sieve.keeps c.args.sieve.now p b in
-    let m = c.net-count-m.result in
-    let n = c.nets-of-nets.result in
+    let m = c.net_count-m.result in
+    let n = c.nets_of-nets.result in
     let q = c.loop-made.self in
     let inv = c.loop-made.invariant in
     let small : q.len ≤ 16 = omega (arith, inv.1.few) in
@@ -119,7 +119,7 @@ returns g c =
     let mark = sits_bookmark m n q inv.1 small in
     let spent : c.loop-made.made ≡ c.args.budget = omega arith in
     let k = bookmark m n c.args.self.now in
-    called_at p b (drawn_sound c.args.pattern.now) (g.B.Board.sound c.args.board.now) keeps m n c.net-count-m.ensures.value c.nets-of-nets.ensures.value (omega arith)
+    called_at p b (drawn_sound c.args.pattern.now) (g.B.Board.sound c.args.board.now) keeps m n c.net_count-m.ensures.value c.nets_of-nets.ensures.value (omega arith)
     c.args.self.now _ _ _ q _ (
       (omega arith, omega arith),
       omega arith,
@@ -147,18 +147,18 @@ returns-then-row-m g c =
     let b = g.B.Board.means c.args.board.now in
     let keeps = g.S.Sieve.keeps c.args.sieve.now p b in
     called p b (drawn_sound c.args.pattern.now) (g.B.Board.sound c.args.board.now) keeps (nets_some c.args.pattern.now) _ _ _ _ _ _
-    (inr (refl, (omega arith, omega arith), omega (arith, c.net-count-m.ensures.value)), refl, refl, refl)
+    (inr (refl, (omega arith, omega arith), omega (arith, c.net_count-m.ensures.value)), refl, refl, refl)
 
-pub returns-then-not-is-start : goal.returns-then-not-is-start
-returns-then-not-is-start g c =
+pub returns-then-not-is_start : goal.returns-then-not-is_start
+returns-then-not-is_start g c =
     let p = drawn c.args.pattern.now in
     let b = g.B.Board.means c.args.board.now in
     let keeps = g.S.Sieve.keeps c.args.sieve.now p b in
-    let m = c.net-count-m.result in
-    let n = c.nets-of-nets.result in
+    let m = c.net_count-m.result in
+    let n = c.nets_of-nets.result in
     let q = c.args.self.now in
-    let gone = no_start m n q (sym c.if-not-is-start.ensures) in
-    called_at p b (drawn_sound c.args.pattern.now) (g.B.Board.sound c.args.board.now) keeps m n c.net-count-m.ensures.value c.nets-of-nets.ensures.value (omega arith)
+    let gone = no_start m n q (sym c.if-not-is_start.ensures) in
+    called_at p b (drawn_sound c.args.pattern.now) (g.B.Board.sound c.args.board.now) keeps m n c.net_count-m.ensures.value c.nets_of-nets.ensures.value (omega arith)
     q _ _ _ q _ (
       (omega arith, omega arith),
       omega arith,

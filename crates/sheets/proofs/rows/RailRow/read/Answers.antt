@@ -6,6 +6,6 @@ use Rattle.sheets.proofs.rows.RailRow.read.Goals as goal
 pub returns : goal.returns
 returns c = record {
   answer = rail_ok c.args.before.now (here c.args.reader.now) (text_of c.in-Some.field) c.in-Some-index.net
-      c.in-Some.ensures.fields c.in-Some-index.ensures (omega (arith, c.rail-before.ensures)) c.if-before-ge-MAX-RAILS.false;
+      c.in-Some.ensures.fields c.in-Some-index.ensures (omega (arith, c.rail_before.ensures)) c.if-before-ge-MAX_RAILS.false;
   still = c.single.ensures.still;
 }

@@ -6,9 +6,9 @@ use Rattle.tables.specs.Cuts.{end_within}
 use Rattle.tables.proofs.Checks.{rising}
 use Rattle.tables.proofs.faults.checks.first_stray.Goals as goal
 
-pub stray-in-k-requires : goal.stray-in-k-requires
-stray-in-k-requires c = record {
-  rises = let r = c.requires.rises c.loop-f.f c.loop-f-test.true in omega (arith, r, c.start-of.ensures);
+pub stray_in-k-requires : goal.stray_in-k-requires
+stray_in-k-requires c = record {
+  rises = let r = c.requires.rises c.loop-f.f c.loop-f-test.true in omega (arith, r, c.start_of.ensures);
   within = end_within c.args.ends.now c.args.joins.now c.loop-f.f c.requires.rises c.requires.closes c.loop-f-test.true;
 }
 

@@ -17,26 +17,26 @@ raise-requires g c =
     let (b, inside) = below_both c.in-Ok.at s.len s.entries.now c.in-Ok.ensures.bound in
     (inside, λ d. let e : c.count_at.result ≡ (get_or s.entries.now c.in-Ok.at d).count = c.count_at.ensures d ∙ ap (λ (z : Entry g.row.K.Denot). z.count) (get_or-take s.len s.entries.now c.in-Ok.at d b) in omega (arith, e, c.count_at.type_inv))
 
-pub returns-then-count-at : goal.returns-then-count-at
-returns-then-count-at g c =
+pub returns-then-count_at : goal.returns-then-count_at
+returns-then-count_at g c =
     let s = c.args.self.now in
     let d : Entry g.row.K.Denot = record { key = c.args.key; count = 0 } in
     record {
       within = λ h. h;
       room = refl;
-      answer = λ o. sym (answer_at g.K.Ord.cmp c.args.key (take s.len s.entries.now) (length s.entries.now) c.in-Ok.at d true (c.in-Ok.ensures.value o) (eq-eqb _ 65535 (sym (c.count-at.ensures d) ∙ c.if-count-at.true)));
+      answer = λ o. sym (answer_at g.K.Ord.cmp c.args.key (take s.len s.entries.now) (length s.entries.now) c.in-Ok.at d true (c.in-Ok.ensures.value o) (eq-eqb _ 65535 (sym (c.count_at.ensures d) ∙ c.if-count_at.true)));
       after = λ o. refl;
       lender = refl;
     }
 
-pub returns-else-count-at : goal.returns-else-count-at
-returns-else-count-at g c =
+pub returns-else-count_at : goal.returns-else-count_at
+returns-else-count_at g c =
     let s = c.args.self.now in
     let d : Entry g.row.K.Denot = record { key = c.args.key; count = 0 } in
     record {
       room = c.raise.auto.entries;
       within = λ h. omega (arith, c.raise.auto.entries);
-      answer = λ o. sym (answer_at g.K.Ord.cmp c.args.key (take s.len s.entries.now) (length s.entries.now) c.in-Ok.at d false (c.in-Ok.ensures.value o) (ne_eqb _ 65535 (λ e. c.if-count-at.false (c.count-at.ensures d ∙ e))));
+      answer = λ o. sym (answer_at g.K.Ord.cmp c.args.key (take s.len s.entries.now) (length s.entries.now) c.in-Ok.at d false (c.in-Ok.ensures.value o) (ne_eqb _ 65535 (λ e. c.if-count_at.false (c.count_at.ensures d ∙ e))));
       after = λ o. ap (take s.len) c.raise.ensures ∙ take_bumped s.len s.entries.now c.in-Ok.at ∙ sym (added_at g.K.Ord.cmp c.args.key (take s.len s.entries.now) c.in-Ok.at (c.in-Ok.ensures.value o));
       lender = refl;
     }
