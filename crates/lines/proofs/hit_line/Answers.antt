@@ -6,12 +6,12 @@ use Rattle.lines.proofs.hit_line.Goals as goal
 
 pub loop-i-preserved : goal.loop-i-preserved
 loop-i-preserved c =
-    c.in-ok-push_str.ensures.bytes
+    c.in_ok-push_str.ensures.bytes
     ∙ ap (λ z. z ++ c.as_str.result.now) c.loop-i.invariant
-    ∙ row_more decimal c.args.row.now c.loop-i.i c.as_str.result.now c.loop-i-test.true (c.as_str.ensures.value ∙ c.in-ok-text.ensures)
+    ∙ row_more decimal c.args.row.now c.loop-i.i c.as_str.result.now c.loop-i-test.true (c.as_str.ensures.value ∙ c.in_ok-text.ensures)
 
 pub returns : goal.returns
 returns c =
-    c.in-ok-push_str-2.ensures.bytes
+    c.in_ok-push_str-2.ensures.bytes
     ∙ ap (λ z. z ++ 10 ∷ []) c.loop-i.invariant
     ∙ ap (λ ns. spaced (map decimal ns) ++ 10 ∷ []) (take_all c.loop-i.i c.args.row.now (omega arith))

@@ -6,12 +6,12 @@ use Rattle.lines.proofs.names_line.Goals as goal
 
 pub loop-i-preserved : goal.loop-i-preserved
 loop-i-preserved c =
-    c.in-ok-push_str.ensures.bytes
+    c.in_ok-push_str.ensures.bytes
     ∙ ap (λ z. z ++ c.as_str.result.now) c.loop-i.invariant
-    ∙ name_more name_of c.loop-i.i c.as_str.result.now (c.as_str.ensures.value ∙ c.in-ok-text.ensures)
+    ∙ name_more name_of c.loop-i.i c.as_str.result.now (c.as_str.ensures.value ∙ c.in_ok-text.ensures)
 
 pub returns : goal.returns
 returns c =
-    c.in-ok-push_str-2.ensures.bytes
+    c.in_ok-push_str-2.ensures.bytes
     ∙ ap (λ z. z ++ 10 ∷ []) c.loop-i.invariant
     ∙ ap (λ n. spaced (map name_of (range_with_len 0 n)) ++ 10 ∷ []) (omega arith)

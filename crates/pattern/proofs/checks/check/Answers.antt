@@ -21,12 +21,12 @@ returns-then-classes-eq0 c = elim c.then-classes-eq0.branch [
 
 pub returns-then-v-classes : goal.returns-then-v-classes
 returns-then-v-classes c =
-    loose_part c.first_loose-v.result (record { some_nets = omega arith; few_nets = omega arith; some_parts = omega arith; few_parts = omega arith }) c.in-default.ensures c.if-v-classes.true
+    loose_part c.first_loose-v.result (record { some_nets = omega arith; few_nets = omega arith; some_parts = omega arith; few_parts = omega arith }) c.in_default.ensures c.if-v-classes.true
     c.first_loose-v.ensures.before (c.first_loose-v.ensures.found (omega arith))
 
 pub returns : goal.returns
 returns c =
-    let fits = c.in-default.ensures in
+    let fits = c.in_default.ensures in
     record {
       some_nets = omega arith;
       few_nets = omega arith;

@@ -5,15 +5,15 @@ use Rattle.sheets.specs.Nets.{front}
 use Rattle.sheets.proofs.Pieces.{front_within, front_more}
 use Rattle.sheets.proofs.nets.net_ends.Goals as goal
 
-pub overflow-cast-at : goal.overflow-cast-at
-overflow-cast-at c = omega (arith, front_within c.loop-net.net c.args.rows.now, c.end_from-at.ensures)
+pub overflow_cast-at : goal.overflow_cast-at
+overflow_cast-at c = omega (arith, front_within c.loop-net.net c.args.rows.now, c.end_from-at.ensures)
 
 pub loop-net-preserved : goal.loop-net-preserved
 loop-net-preserved c =
     let rows = c.args.rows.now in
     let f = c.loop-net.net in
     let more = front_more f (f + 1) rows (omega arith) in (
-      c.in-ok-push.ensures.items
+      c.in_ok-push.ensures.items
           ∙ ap (λ es. es ++ c.end_from-at.result ∷ []) c.loop-net.invariant.0
           ∙ ap (λ e. map (λ k. front k rows) (range_with_len 0 f) ++ e ∷ []) c.end_from-at.ensures
           ∙ sym (map-range_with_len_more (λ k. front k rows) 0 f f (omega arith)),

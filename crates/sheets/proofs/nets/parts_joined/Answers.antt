@@ -7,7 +7,7 @@ pub loop-row-preserved : goal.loop-row-preserved
 loop-row-preserved c =
     let rows = c.args.rows.now in
     let i = c.loop-row.row-index in
-    c.in-ok-push.ensures.items
+    c.in_ok-push.ensures.items
     ∙ ap (λ ps. ps ++ part_of (get_or rows i (record { net = 0; part = 0 })) ∷ []) c.loop-row.invariant
     ∙ sym (map_more part_of rows i (record { net = 0; part = 0 }) c.loop-row-test.true)
 

@@ -8,14 +8,14 @@ returns-then-not-is-ascii-digit c =
     let s = c.args.bytes.now in
     not_number s (sym c.loop-i.invariant.2 ∙ all_more s c.loop-i.i c.loop-i-test.true false c.if-not-is-ascii-digit.ensures.value)
 
-pub overflow-mul-n : goal.overflow-mul-n
-overflow-mul-n c =
+pub overflow_mul-n : goal.overflow_mul-n
+overflow_mul-n c =
     let few = c.if-not-is_shaped.ensures.bound refl in
     let b = digit_more c.loop-i.n c.loop-i.i 0 c.loop-i.invariant.0 (omega arith) in
     omega (arith, within_nine (c.loop-i.i + 1) (omega arith))
 
-pub overflow-add-n : goal.overflow-add-n
-overflow-add-n c =
+pub overflow_add-n : goal.overflow_add-n
+overflow_add-n c =
     let few = c.if-not-is_shaped.ensures.bound refl in
     let low = digit_low (get_or c.args.bytes.now c.loop-i.i 0) (sym c.if-not-is-ascii-digit.ensures.value) in
     let b = digit_more c.loop-i.n c.loop-i.i c.from.result c.loop-i.invariant.0 (omega arith) in

@@ -3,7 +3,7 @@ use Rattle.std.proofs.lemmas.List.{length-take}
 use Rattle.tables.specs.Cuts.{net_small}
 use Rattle.pattern.proofs.pattern.board.PatternBoard.size.Goals as goal
 
-pub overflow-cast-result : goal.overflow-cast-result
-overflow-cast-result c =
+pub overflow_cast-result : goal.overflow_cast-result
+overflow_cast-result c =
     let s = c.args.self.now in
     omega (arith, ap length c.list.ensures, net_small (take s.nets s.ends) (take s.total s.joins) c.args.f, length-take s.total s.joins, s.few_joins)
