@@ -42,7 +42,7 @@ pub fn fault_in(file: File, reason: Reason, line: usize, place: usize) -> Fault
 
 // The rows of a sheet, line by line; the first bad line is the sheet's fault.
 fn load_rows<R: Row>(heap: Global, file: File, bytes: &[u8]) -> Result<Vec<R>, Trouble>
-    ensures { Loaded result (sheet_of judged file heading bytes.now) }
+    ensures { Loaded result (sheet_of R.judged file R.heading bytes.now) }
 {
     if bytes.len() > MAX_BYTES {
         return Err(Trouble::Faulty(fault_in(file, Reason::SheetSize, 0, 0)));

@@ -17,7 +17,7 @@ overflow_mul-n c =
 pub overflow_add-n : goal.overflow_add-n
 overflow_add-n c =
     let few = c.if-not-is_shaped.ensures.bound refl in
-    let low = digit_low (get_or c.args.bytes.now c.loop-i.i 0) (sym c.if-not-is-ascii-digit.ensures.value) in
+    let low = digit_low (get_or c.args.bytes.now c.loop-i.i 0) (sym c.if-not-is_ascii_digit.ensures.value) in
     let b = digit_more c.loop-i.n c.loop-i.i c.from.result c.loop-i.invariant.0 (omega arith) in
     omega (arith, within_nine (c.loop-i.i + 1) (omega arith))
 
@@ -26,9 +26,9 @@ loop-i-preserved c =
     let s = c.args.bytes.now in
     let i = c.loop-i.i in
     let n = c.loop-i.n in
-    let low = digit_low (get_or s i 0) (sym c.if-not-is-ascii-digit.ensures.value) in
+    let low = digit_low (get_or s i 0) (sym c.if-not-is_ascii_digit.ensures.value) in
     let more = value_more s i n c.loop-i-test.true in
-    let all = all_more s i c.loop-i-test.true true c.if-not-is-ascii-digit.ensures.value in (
+    let all = all_more s i c.loop-i-test.true true c.if-not-is_ascii_digit.ensures.value in (
       digit_more n i c.from.result c.loop-i.invariant.0 (omega arith),
       ap (λ d. value_on (n * 10 + d) (drop (i + 1) s)) c.from.ensures ∙ sym more ∙ c.loop-i.invariant.1,
       sym all ∙ c.loop-i.invariant.2,
