@@ -9,7 +9,7 @@ use Rattle.circuit.proofs.Counting.{last_or}
 use Rattle.matching.specs.declared.cell.Cell.{Cell}
 use Rattle.tally.specs.declared.entry.Entry.{Entry}
 use Rattle.tally.specs.Tallies.{tallied, answer}
-use Rattle.matching.specs.Orders.{cells}
+use Rattle.matching.specs.Orders.{by_cell}
 use Rattle.tally.proofs.Counts.{roomy, answer_room}
 use Rattle.matching.specs.Keys.{cell_of, fresh, picked, keys, sizes}
 
@@ -73,15 +73,15 @@ module _ (c : Circuit) (s : List ℕ) where
         ∙ append-nil (picked c s i (take k (net c (get_or s i 0)))))
 
     pub far-room :
-        (room : ℕ) (es : List (Entry Cell)) (cell : Cell) → es ≡ tallied cells.cmp (so_far i k) →
-        sizes c s (suc i) ≤ room → sizes c s (suc i) < 65535 → answer cells.cmp es cell room ≡ Ok tt
+        (room : ℕ) (es : List (Entry Cell)) (cell : Cell) → es ≡ tallied by_cell (so_far i k) →
+        sizes c s (suc i) ≤ room → sizes c s (suc i) < 65535 → answer by_cell es cell room ≡ Ok tt
     far-room room es cell e fits low =
         let a = keys_few i in
         let b = picked_few i (take k (net c (get_or s i 0))) in
         let d = length-take-le k (net c (get_or s i 0)) (omega arith) in
         let n = length-append (keys c s i) (picked c s i (take k (net c (get_or s i 0)))) in
-        ap (λ (z : List (Entry Cell)). answer cells.cmp z cell room) e
-        ∙ answer_room cells.cmp (length (so_far i k)) room (tallied cells.cmp (so_far i k)) cell (roomy cells.cmp (so_far i k)) (omega arith) (omega arith)
+        ap (λ (z : List (Entry Cell)). answer by_cell z cell room) e
+        ∙ answer_room by_cell (length (so_far i k)) room (tallied by_cell (so_far i k)) cell (roomy by_cell (so_far i k)) (omega arith) (omega arith)
 
   pub far_none : (i : ℕ) → so_far i 0 ≡ keys c s i
   far_none i = append-nil (keys c s i)

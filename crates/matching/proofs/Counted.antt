@@ -13,7 +13,7 @@ use Rattle.circuit.proofs.Nets.{net_count}
 use Rattle.matching.specs.declared.cell.Cell.{Cell}
 use Rattle.tally.specs.Tallies.{by}
 use Rattle.tally.specs.Levels.{times}
-use Rattle.matching.specs.Orders.{cells}
+use Rattle.matching.specs.Orders.{by_cell}
 use Rattle.tally.proofs.Counts.{times_append}
 use Rattle.matching.specs.Keys.{cell_of, fresh, picked, keys}
 
@@ -33,7 +33,7 @@ tied_both Equal Equal = refl
 tied_both Equal Greater = refl
 tied_both Greater r = refl
 
-pub tie : (x : Cell) (cls msk : ℕ) → by (cells.cmp x (record { class = cls; mask = msk })) 0 1 0 ≡ bit (eqb x.class cls && eqb x.mask msk)
+pub tie : (x : Cell) (cls msk : ℕ) → by (by_cell x (record { class = cls; mask = msk })) 0 1 0 ≡ bit (eqb x.class cls && eqb x.mask msk)
 tie x cls msk =
     tied_both (nat_cmp x.class cls) (nat_cmp x.mask msk)
     ∙ ap (λ (t : Bool). bit (t && is_eq (nat_cmp x.mask msk))) (unsigned_tied x.class cls)
@@ -72,7 +72,7 @@ module _ (c : Circuit) (s : List ℕ) where
     abbrev here : ℕ → ℕ → Bool
     here i v = fresh c s i v && in_cell c s cls msk v
 
-    times_picked : (i : ℕ) (xs : List ℕ) → times cells.cmp (picked c s i xs) (record { class = cls; mask = msk }) ≡ count_by (here i) xs
+    times_picked : (i : ℕ) (xs : List ℕ) → times by_cell (picked c s i xs) (record { class = cls; mask = msk }) ≡ count_by (here i) xs
     times_picked i [] = refl
     times_picked i (x ∷ xs) = go (fresh c s i x) refl (times_picked i xs)
       where
@@ -80,8 +80,8 @@ module _ (c : Circuit) (s : List ℕ) where
         folded = sym (sum_by-cons (λ y. cond (here i y) 1 0) x xs ∙ ap (λ (m : ℕ). m + count_by (here i) xs) (sym (bit_cond (here i x))))
 
         go :
-            (t : Bool) → fresh c s i x ≡ t → times cells.cmp (picked c s i xs) (record { class = cls; mask = msk }) ≡ count_by (here i) xs →
-            times cells.cmp (cond t (cell_of c s x ∷ picked c s i xs) (picked c s i xs)) (record { class = cls; mask = msk }) ≡ count_by (here i) (x ∷ xs)
+            (t : Bool) → fresh c s i x ≡ t → times by_cell (picked c s i xs) (record { class = cls; mask = msk }) ≡ count_by (here i) xs →
+            times by_cell (cond t (cell_of c s x ∷ picked c s i xs) (picked c s i xs)) (record { class = cls; mask = msk }) ≡ count_by (here i) (x ∷ xs)
         go true e rest =
             let a = tie (cell_of c s x) cls msk in
             let b : bit (here i x) ≡ bit (in_cell c s cls msk x) = ap (λ (t : Bool). bit (t && in_cell c s cls msk x)) e in
@@ -103,11 +103,11 @@ module _ (c : Circuit) (s : List ℕ) where
         go false false true = refl
         go false false false = refl
 
-    times_keys : Sound c → (i : ℕ) → i ≤ length s → times cells.cmp (keys c s i) (record { class = cls; mask = msk }) ≡ count (low i) (parts c)
+    times_keys : Sound c → (i : ℕ) → i ≤ length s → times by_cell (keys c s i) (record { class = cls; mask = msk }) ≡ count (low i) (parts c)
     times_keys sound zero h = sym (count_none (low 0) (parts c) λ v. and_left (not (fresh c s 0 v)) (in_cell c s cls msk v) (ap not (eq-eqb (mask c s v % 1) 0 (omega arith))))
     times_keys sound (suc i) h =
         let f = get_or s i 0 in
-        let a = times_append cells.cmp (keys c s i) (picked c s i (net c f)) (record { class = cls; mask = msk }) in
+        let a = times_append by_cell (keys c s i) (picked c s i (net c f)) (record { class = cls; mask = msk }) in
         let b = times_keys sound i (omega arith) in
         let d = times_picked i (net c f) in
         let e = net_count (here i) (parts c) (net c f) (net_ascends c sound f) (net_below c sound f) in
@@ -137,8 +137,8 @@ module _ (c : Circuit) (s : List ℕ) where
             let y : fresh c s (length s) v ≡ true = eq-eqb (mask c s v % 2 ^ length s) 0 (whole v ∙ d ∙ z) in
             and_left (not (fresh c s (length s) v)) (in_cell c s cls msk v) (ap not y)
 
-    pub times_cells : Sound c → 0 < msk → times cells.cmp (keys c s (length s)) (record { class = cls; mask = msk }) ≡ cell-count c s cls msk
+    pub times_cells : Sound c → 0 < msk → times by_cell (keys c s (length s)) (record { class = cls; mask = msk }) ≡ cell-count c s cls msk
     times_cells sound pos = times_keys sound (length s) (omega arith) ∙ count_same (low (length s)) (in_cell c s cls msk) (parts c) (λ v _. all_of v pos)
 
-    pub times_zero : Sound c → msk ≡ 0 → times cells.cmp (keys c s (length s)) (record { class = cls; mask = msk }) ≡ 0
+    pub times_zero : Sound c → msk ≡ 0 → times by_cell (keys c s (length s)) (record { class = cls; mask = msk }) ≡ 0
     times_zero sound z = times_keys sound (length s) (omega arith) ∙ count_none (low (length s)) (parts c) (λ v. none_of v z)

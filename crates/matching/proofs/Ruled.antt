@@ -14,7 +14,7 @@ use Rattle.circuit.proofs.Nets.{net_size, net_few}
 use Rattle.matching.specs.declared.cell.Cell.{Cell}
 use Rattle.tally.specs.declared.entry.Entry.{Entry}
 use Rattle.tally.specs.Tallies.{counted, tallied}
-use Rattle.matching.specs.Orders.{cells}
+use Rattle.matching.specs.Orders.{by_cell, cells}
 use Rattle.tally.specs.Levels.{times}
 use Rattle.tally.proofs.Counts.{counted_tallied}
 use Rattle.matching.specs.Keys.{keys, sizes, SameSizes}
@@ -65,33 +65,33 @@ module _ (p b : Circuit) (sp : Sound p) (sb : Sound b) (k : ℕ) (s : List ℕ) 
       m = place_maps p b sp sb k s long rule
 
   module _ (ps bs : List (Entry Cell))
-      (pe : ps ≡ tallied cells.cmp (keys p (upto k) (length (upto k))))
-      (be : bs ≡ tallied cells.cmp (keys b s (length s))) where
-    from_level : ((x : Cell) → counted cells.cmp ps x ≡ counted cells.cmp bs x) → CellRule p k b s
+      (pe : ps ≡ tallied by_cell (keys p (upto k) (length (upto k))))
+      (be : bs ≡ tallied by_cell (keys b s (length s))) where
+    from_level : ((x : Cell) → counted by_cell ps x ≡ counted by_cell bs x) → CellRule p k b s
     from_level h cls msk pos =
         let x : Cell = record { class = cls; mask = msk } in
         sym (times_cells p (upto k) cls msk sp pos)
         ∙ sym (counted_tallied cells (keys p (upto k) (length (upto k))) x)
-        ∙ ap (λ (es : List (Entry Cell)). counted cells.cmp es x) (sym pe)
+        ∙ ap (λ (es : List (Entry Cell)). counted by_cell es x) (sym pe)
         ∙ h x
-        ∙ ap (λ (es : List (Entry Cell)). counted cells.cmp es x) be
+        ∙ ap (λ (es : List (Entry Cell)). counted by_cell es x) be
         ∙ counted_tallied cells (keys b s (length s)) x
         ∙ times_cells b s cls msk sb pos
 
-    to_level : CellRule p k b s → (x : Cell) → counted cells.cmp ps x ≡ counted cells.cmp bs x
+    to_level : CellRule p k b s → (x : Cell) → counted by_cell ps x ≡ counted by_cell bs x
     to_level rule x =
-        ap (λ (es : List (Entry Cell)). counted cells.cmp es x) pe
+        ap (λ (es : List (Entry Cell)). counted by_cell es x) pe
         ∙ counted_tallied cells (keys p (upto k) (length (upto k))) x
         ∙ same x.class x.mask
         ∙ sym (counted_tallied cells (keys b s (length s)) x)
-        ∙ ap (λ (es : List (Entry Cell)). counted cells.cmp es x) (sym be)
+        ∙ ap (λ (es : List (Entry Cell)). counted by_cell es x) (sym be)
       where
-        same : (cls msk : ℕ) → times cells.cmp (keys p (upto k) (length (upto k))) (record { class = cls; mask = msk }) ≡ times cells.cmp (keys b s (length s)) (record { class = cls; mask = msk })
+        same : (cls msk : ℕ) → times by_cell (keys p (upto k) (length (upto k))) (record { class = cls; mask = msk }) ≡ times by_cell (keys b s (length s)) (record { class = cls; mask = msk })
         same cls zero = times_zero p (upto k) cls 0 sp refl ∙ sym (times_zero b s cls 0 sb refl)
         same cls (suc m) =
             times_cells p (upto k) cls (suc m) sp (omega arith) ∙ rule cls (suc m) (omega arith) ∙ sym (times_cells b s cls (suc m) sb (omega arith))
 
-    pub level_rule : (r : Bool) → Decides r ((x : Cell) → counted cells.cmp ps x ≡ counted cells.cmp bs x) → r ≡ meets_cell_rule p k b s
+    pub level_rule : (r : Bool) → Decides r ((x : Cell) → counted by_cell ps x ≡ counted by_cell bs x) → r ≡ meets_cell_rule p k b s
     level_rule r d = same_from_decides r (meets_cell_rule p k b s) (Decides-like r from_level to_level d) (cell_rule_decided p k b s)
 
   pub sizes_rule : (SameSizes p b s k → ⊥) → false ≡ meets_cell_rule p k b s

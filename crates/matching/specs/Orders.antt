@@ -1,13 +1,12 @@
 -- Cells are ordered by class, then by mask.
-use Rattle.std.specs.Prelude.{◌≡◌, ℕ, ◌<◌}
+use Rattle.std.specs.Prelude.{ℕ}
 use Rattle.std.specs.declared.cmp.Ordering.{Ordering}
-use Rattle.std.specs.Ordering.{MatchOrdering}
-use Rattle.std.specs.Cmp.{IsTotalOrder, nat_cmp_total}
-use Rattle.std.specs.Cmp.Derive.{on, fields, Lex}
+use Rattle.std.specs.Ordering.{ordering_then, nat_cmp}
+use Rattle.std.specs.Cmp.{IsTotalOrder, nat_cmp_total, on_total, then_total}
 use Rattle.matching.specs.declared.cell.Cell.{Cell}
 
-abbrev by_number : ℕ → ℕ → Ordering → Type 0
-by_number x y r = MatchOrdering r (x < y) (x ≡ y) (y < x)
+abbrev pub by_cell : Cell → Cell → Ordering
+by_cell x y = ordering_then (nat_cmp x.class y.class) (nat_cmp x.mask y.mask)
 
-abbrev pub cells : IsTotalOrder (λ (x y : Cell). Lex (by_number x.class y.class) (by_number x.mask y.mask))
-cells = on (λ (x : Cell). (x.class, x.mask)) (fields nat_cmp_total nat_cmp_total)
+pub cells : IsTotalOrder by_cell
+cells = then_total (on_total (λ (x : Cell). x.class) nat_cmp_total) (on_total (λ (x : Cell). x.mask) nat_cmp_total)

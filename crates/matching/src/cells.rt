@@ -2,7 +2,7 @@
 ghost use Rattle.std.specs.Prelude.{◌≡◌, ℕ, suc, ◌+◌, ◌<◌, ◌≤◌, ◌∷◌, length, take};
 ghost use Rattle.circuit.specs.Circuit.{mask};
 ghost use Rattle.tally.specs.Tallies.{tallied};
-ghost use Rattle.matching.specs.Orders.{cells as by-cell};
+ghost use Rattle.matching.specs.Orders.{by_cell};
 ghost use Rattle.matching.specs.Keys.{keys, sizes};
 
 use super::cell::Cell;
@@ -28,11 +28,11 @@ fn add_net<C: Board>(c: &C, start: &[u16], i: usize, tally: &mut Tally<'_, Cell>
     requires short { length start.now ≤ 16 }
     requires there { i < length start.now }
     requires within { tally.old.len ≤ length tally.old.entries.now }
-    requires before { take tally.old.len tally.old.entries.now ≡ tallied by-cell.cmp (keys (C.Board.means c.now) start.now i) }
+    requires before { take tally.old.len tally.old.entries.now ≡ tallied by_cell (keys (C.Board.means c.now) start.now i) }
     requires room { sizes (C.Board.means c.now) start.now (suc i) ≤ length tally.old.entries.now }
     requires low { sizes (C.Board.means c.now) start.now (suc i) < 65535 }
     ensures within { tally.new.len ≤ length tally.new.entries.now }
-    ensures after { take tally.new.len tally.new.entries.now ≡ tallied by-cell.cmp (keys (C.Board.means c.now) start.now (suc i)) }
+    ensures after { take tally.new.len tally.new.entries.now ≡ tallied by_cell (keys (C.Board.means c.now) start.now (suc i)) }
     ensures lender { tally.new.entries.ghost_name ≡ tally.old.entries.ghost_name }
     ensures room { length tally.new.entries.now ≡ length tally.old.entries.now }
 {
@@ -54,7 +54,7 @@ pub(super) fn tally_cells<C: Board>(c: &C, start: &[u16], room: &mut [Entry<Cell
     requires room { sizes (C.Board.means c.now) start.now (length start.now) ≤ length room.old }
     requires low { sizes (C.Board.means c.now) start.now (length start.now) < 65535 }
     ensures within { result ≤ length room.new }
-    ensures after { take result room.new ≡ tallied by-cell.cmp (keys (C.Board.means c.now) start.now (length start.now)) }
+    ensures after { take result room.new ≡ tallied by_cell (keys (C.Board.means c.now) start.now (length start.now)) }
 {
     let mut tally = Tally::over(room);
     for i in 0..start.len() {

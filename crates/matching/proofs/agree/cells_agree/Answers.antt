@@ -2,7 +2,7 @@ use Rattle.std.proofs.Common.{◌≡◌, ℕ, ◌+◌, ◌-◌, ◌*◌, ◌<◌
 use Rattle.std.proofs.lemmas.Bool.{both_ways}
 use Rattle.circuit.specs.Circuit.{upto}
 use Rattle.circuit.proofs.Masks.{length_upto}
-use Rattle.matching.specs.Orders.{cells}
+use Rattle.matching.specs.Orders.{by_cell, cells}
 use Rattle.tally.specs.Tallies.{tallied}
 use Rattle.matching.specs.Keys.{sizes, keys}
 use Rattle.matching.proofs.Ruled.{sizes_few, sizes_same, sizes_rule, level_rule}
@@ -45,7 +45,7 @@ returns g c =
     let y : c.tally_cells-first.result - 0 ≡ c.tally_cells-first.result = omega arith in
     let z : c.tally_cells-second.result - 0 ≡ c.tally_cells-second.result = omega arith in
     level_rule p b (g.P.Board.sound c.args.p.now) (g.B.Board.sound c.args.b.now) (length s) s refl _ _
-    (ap (λ (n : ℕ). take n c.tally_cells-first.new.room) y ∙ c.tally_cells-first.ensures.after ∙ ap (λ (o : List ℕ). tallied cells.cmp (keys p o (length o))) c.order.ensures)
+    (ap (λ (n : ℕ). take n c.tally_cells-first.new.room) y ∙ c.tally_cells-first.ensures.after ∙ ap (λ (o : List ℕ). tallied by_cell (keys p o (length o))) c.order.ensures)
     (ap (λ (n : ℕ). take n c.tally_cells-second.new.room) z ∙ c.tally_cells-second.ensures.after)
     c.agree.result
     (c.agree.ensures cells)

@@ -1,12 +1,12 @@
 use Rattle.std.proofs.Common.{◌≡◌, ◌≤◌, length, take}
 use Rattle.tally.specs.Tallies.{tallied}
-use Rattle.matching.specs.Orders.{cells}
+use Rattle.matching.specs.Orders.{by_cell}
 use Rattle.matching.proofs.Adding.{so_far}
 use Rattle.matching.proofs.cells.add_net.Given as goal
 
 abbrev pub invariant-loop-k : goal.invariant-loop-k
 invariant-loop-k g l =
     (l.tally.len ≤ length l.tally.entries.now)
-    × (l.tally.entries.name ≡ l.initial.tally.entries.name)
+    × (l.tally.entries.ghost_name ≡ l.initial.tally.entries.ghost_name)
     × (length l.tally.entries.now ≡ length l.initial.tally.entries.now)
-    × (take l.tally.len l.tally.entries.now ≡ tallied cells.cmp (so_far (g.C.Board.means l.c) l.start l.i l.k))
+    × (take l.tally.len l.tally.entries.now ≡ tallied by_cell (so_far (g.C.Board.means l.c) l.start l.i l.k))

@@ -1,6 +1,6 @@
 use Rattle.std.proofs.Common.{◌≡◌, ℕ, suc, ◌+◌, ◌<◌, ◌≤◌, length, get_or, take, sym, ap, ◌∙◌, subst, add-one, arith}
 use Rattle.tally.specs.Tallies.{tallied}
-use Rattle.matching.specs.Orders.{cells}
+use Rattle.matching.specs.Orders.{by_cell}
 use Rattle.matching.specs.Keys.{keys}
 use Rattle.matching.proofs.Adding.{sizes_up}
 use Rattle.matching.proofs.cells.tally_cells.Goals as goal
@@ -28,4 +28,4 @@ loop-i-preserved g c =
     let i = c.loop-i.i in
     let inv = c.loop-i.invariant in
     let p = c.add_net.ensures in
-    (p.within, p.lender ∙ inv.1, p.room ∙ inv.2, p.after ∙ ap (λ (n : ℕ). tallied cells.cmp (keys m s n)) (sym (add-one i)))
+    (p.within, p.lender ∙ inv.1, p.room ∙ inv.2, p.after ∙ ap (λ (n : ℕ). tallied by_cell (keys m s n)) (sym (add-one i)))

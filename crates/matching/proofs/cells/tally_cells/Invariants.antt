@@ -1,12 +1,12 @@
 use Rattle.std.proofs.Common.{◌≡◌, ◌≤◌, length, take}
 use Rattle.tally.specs.Tallies.{tallied}
-use Rattle.matching.specs.Orders.{cells}
+use Rattle.matching.specs.Orders.{by_cell}
 use Rattle.matching.specs.Keys.{keys}
 use Rattle.matching.proofs.cells.tally_cells.Given as goal
 
 abbrev pub invariant-loop-i : goal.invariant-loop-i
 invariant-loop-i g l =
     (l.tally.len ≤ length l.tally.entries.now)
-    × (l.tally.entries.name ≡ l.initial.tally.entries.name)
+    × (l.tally.entries.ghost_name ≡ l.initial.tally.entries.ghost_name)
     × (length l.tally.entries.now ≡ length l.initial.tally.entries.now)
-    × (take l.tally.len l.tally.entries.now ≡ tallied cells.cmp (keys (g.C.Board.means l.c) l.start l.i))
+    × (take l.tally.len l.tally.entries.now ≡ tallied by_cell (keys (g.C.Board.means l.c) l.start l.i))

@@ -6,7 +6,7 @@ use Rattle.matching.proofs.mapping.place_all.Given as goal
 
 abbrev pub invariant-loop-u : goal.invariant-loop-u
 invariant-loop-u g l =
-    (l.guard.bytes.name ≡ l.initial.guard.bytes.name)
+    (l.guard.bytes.ghost_name ≡ l.initial.guard.bytes.ghost_name)
     × (length l.guard.bytes.now ≡ length l.initial.guard.bytes.now)
     × (l.out ≡ done (drawn l.p) (N (drawn l.p)) (g.B.Board.means l.b) l.tuple l.u ++ drop l.u l.initial.out)
     × Marked (drawn l.p) (N (drawn l.p)) (g.B.Board.means l.b) l.tuple l.u l.guard.bytes.now

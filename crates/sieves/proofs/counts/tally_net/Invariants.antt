@@ -8,6 +8,6 @@ abbrev pub invariant-loop-k : goal.invariant-loop-k
 invariant-loop-k g l =
     let c = g.C.Board.means l.c in
     (l.tally.len ≤ length l.tally.entries.now)
-    × (l.tally.entries.name ≡ l.initial.tally.entries.name)
+    × (l.tally.entries.ghost_name ≡ l.initial.tally.entries.ghost_name)
     × (length l.tally.entries.now ≡ length l.initial.tally.entries.now)
     × (take l.tally.len l.tally.entries.now ≡ tallied nat_cmp (map (class c) (take l.k (net c l.f))))

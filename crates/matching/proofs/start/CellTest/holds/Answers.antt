@@ -24,8 +24,8 @@ cells_agree-requires g c =
     record {
       short = omega (arith, c.net_count.ensures.few);
       few = parts_few c.args.p.now;
-      pattern-room = omega arith;
-      board-room = omega arith;
+      pattern_room = omega arith;
+      board_room = omega arith;
     }
 
 pub returns : goal.returns
