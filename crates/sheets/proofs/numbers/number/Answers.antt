@@ -3,10 +3,10 @@ use Rattle.sheets.specs.Numbers.{value_on}
 use Rattle.sheets.proofs.Digits.{digit_more, within_nine, digit_low, all_more, value_more, all_all, value_all, not_number, a_number}
 use Rattle.sheets.proofs.numbers.number.Goals as goal
 
-pub returns-then-not-is-ascii-digit : goal.returns-then-not-is-ascii-digit
-returns-then-not-is-ascii-digit c =
+pub returns-then-not-is_ascii_digit : goal.returns-then-not-is_ascii_digit
+returns-then-not-is_ascii_digit c =
     let s = c.args.bytes.now in
-    not_number s (sym c.loop-i.invariant.2 ∙ all_more s c.loop-i.i c.loop-i-test.true false c.if-not-is-ascii-digit.ensures.value)
+    not_number s (sym c.loop-i.invariant.2 ∙ all_more s c.loop-i.i c.loop-i-test.true false c.if-not-is_ascii_digit.ensures.value)
 
 pub overflow_mul-n : goal.overflow_mul-n
 overflow_mul-n c =
