@@ -35,6 +35,6 @@ returns g c =
     let i = c.loop-i.i in
     let all = take_all i c.args.calls.now c.loop-i-test.false in
     let made = take_all i c.loop-i.calls (omega (arith, c.loop-i.auto.calls, c.loop-i-test.false)) in
-    whole g.L.Label.proper g.L.Label.same m.itself m.turned m.chained c.args.-pattern_labels.now c.args.-board_labels.now p b keeps
+    whole g.L.Label.proper g.L.Label.same m.itself m.turned m.chained c.args._pattern_labels.now c.args._board_labels.now p b keeps
     c.args.calls.now c.loop-i.calls k c.open-search.ensures.promise
     (subst₂ (λ (xs ys : List Call). Through R (opening R) xs ys k) all made c.loop-i.invariant.0)

@@ -19,7 +19,7 @@ loop-k-preserved g c =
     let room = length c.loop-k.tally.entries.now in
     let h : k < length (net m f) = omega arith in
     let cls : c.class_of.result ≡ class m (get_or (net m f) k 0) = c.class_of.ensures ∙ ap (class m) c.part_of.ensures in
-    let fits = so_far_room m f k h room es c.class_of.result inv.3 (omega (arith, c.requires, inv.2, ap length c.over-tally.ensures.room)) (omega (arith, c.size-k-end.type-inv)) in (
+    let fits = so_far_room m f k h room es c.class_of.result inv.3 (omega (arith, c.requires, inv.2, ap length c.over-tally.ensures.room)) (omega (arith, c.size-k-end.type_inv)) in (
       p.within inv.0,
       p.lender ∙ inv.1,
       p.room ∙ inv.2,

@@ -5,4 +5,4 @@ use Rattle.sieves.proofs.counts.CountsSieveSieve.ready.Goals as goal
 
 pub returns : goal.returns
 returns g c =
-    counts_fit (drawn c.args.-pattern.now) (g.B.Board.means c.args.-board.now) (drawn_sound c.args.-pattern.now) (g.B.Board.sound c.args.-board.now)
+    counts_fit (drawn c.args._pattern.now) (g.B.Board.means c.args._board.now) (drawn_sound c.args._pattern.now) (g.B.Board.sound c.args._board.now)
