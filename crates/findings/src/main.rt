@@ -5,6 +5,7 @@ use anyhow::anyhow;
 use folder::list_folder;
 use listing::Outcome;
 use std::env;
+use std::process::ExitCode;
 
 fn run(rt: &HostRuntime) -> anyhow::Result<Outcome> {
     let mut args = env::args(rt)?;
@@ -19,11 +20,10 @@ fn run(rt: &HostRuntime) -> anyhow::Result<Outcome> {
     }
 }
 
-// A fault has its own line on standard output, so its error says no more than that there was one.
-fn main(rt: HostRuntime) -> anyhow::Result<()> {
-    match run(&rt) {
-        Ok(Outcome::Faulty) => Err(anyhow!("fault")),
-        Ok(_) => Ok(()),
-        Err(e) => Err(e),
+// A fault has its own line on standard output, so no more is said of it than by the status.
+fn main(rt: HostRuntime) -> anyhow::Result<ExitCode> {
+    match run(&rt)? {
+        Outcome::Faulty => Ok(ExitCode::FAILURE),
+        _ => Ok(ExitCode::SUCCESS),
     }
 }

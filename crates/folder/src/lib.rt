@@ -4,7 +4,6 @@
 use anyhow::anyhow;
 use listing::{Halt, Outcome, Sink, list};
 use loading::Sheets;
-use std::alloc::Global;
 use std::io::{ErrorKind, Read};
 use std::{fs, io};
 
@@ -29,11 +28,8 @@ impl<'a> Sink for Printer<'a> {
 }
 
 // What went wrong, and with what.
-fn told(heap: Global, what: &str, path: &str, e: io::Error) -> anyhow::Error {
-    match format!(in heap; "cannot {what} {path}: {e}") {
-        Ok(text) => text.into(),
-        Err(_) => "out of memory".into(),
-    }
+fn told(what: &str, path: &str, e: io::Error) -> anyhow::Error {
+    anyhow!("cannot {what} {path}: {e}")
 }
 
 // The bytes of a sheet; a missing one has none, and of one that is too long no more is read than shows it.
@@ -47,12 +43,12 @@ fn read_sheet(rt: &HostRuntime, folder: &str, name: &str) -> anyhow::Result<Vec<
             if e.kind() == ErrorKind::NotFound {
                 return Ok(bytes);
             }
-            return Err(told(heap, "read", path.as_str(), e));
+            return Err(told("read", path.as_str(), e));
         }
     };
     match file.take(MOST_BYTES).read_to_end(&mut bytes) {
         Ok(_) => Ok(bytes),
-        Err(e) => Err(told(heap, "read", path.as_str(), e)),
+        Err(e) => Err(told("read", path.as_str(), e)),
     }
 }
 
@@ -74,6 +70,6 @@ pub fn list_folder(rt: &HostRuntime, folder: &str) -> anyhow::Result<Outcome> {
     match list(rt.alloc(), &sheets, &mut printer) {
         Ok(outcome) => Ok(outcome),
         Err(Halt::Memory) => Err(anyhow!("out of memory")),
-        Err(Halt::Output(e)) => Err(told(rt.alloc(), "write", "the list", e)),
+        Err(Halt::Output(e)) => Err(told("write", "the list", e)),
     }
 }
