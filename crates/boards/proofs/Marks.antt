@@ -1,5 +1,5 @@
 -- What marks leave of a net.
-use Rattle.std.proofs.Common.{◌≡◌, ℕ, zero, suc, Bool, true, false, cond, List, [], ◌∷◌, get_or, replicate, sym, refl, ap, ◌∙◌}
+use Rattle.std.proofs.Common.{◌≡◌, ℕ, zero, suc, Bool, true, false, cond, List, [], ◌∷◌, get_or, replicate, refl, ap, ◌∙◌}
 use Rattle.circuit.specs.Circuit.{Circuit}
 use Rattle.boards.specs.Blank.{blanked, blank}
 

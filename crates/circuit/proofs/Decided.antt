@@ -1,10 +1,10 @@
 -- The cell rule and a hit, by tests that compute.
-use Rattle.std.proofs.Common.{◌≡◌, ℕ, zero, suc, ◌<◌, ◌≤◌, Bool, true, false, not, ◌&&◌, ◌||◌, eqb, ltb, ◌⊎◌, List, [], ◌∷◌, length, Decides, sym, refl, ap, ◌∙◌, subst, subst₂, inl, inr, ⊎_elim, arith}
+use Rattle.std.proofs.Common.{◌≡◌, ℕ, zero, suc, ◌<◌, Bool, true, false, not, ◌&&◌, ◌||◌, eqb, ltb, ◌⊎◌, List, [], ◌∷◌, length, Decides, sym, refl, ◌∙◌, subst₂, inl, inr, ⊎_elim, arith}
 use Rattle.std.specs.List.{AllByRecursion as All}
-use Rattle.std.proofs.lemmas.Bool.{cases_Bool, eqb-true, eqb-false, eq-eqb, or_cases, or_left, or_right, false≢true}
-use Rattle.std.proofs.lemmas.Bool.Decides.{Decides-eqb, Decides-ltb, Decides-and, Decides-or, Decides-not, Decides-like, Decides-below_and}
+use Rattle.std.proofs.lemmas.Bool.{eqb-true, eqb-false, false≢true}
+use Rattle.std.proofs.lemmas.Bool.Decides.{Decides-eqb, Decides-ltb, Decides-and, Decides-or, Decides-like, Decides-below_and}
 use Rattle.std.proofs.ByRecursion.{Decides-by_and}
-use Rattle.circuit.specs.Circuit.{Circuit, parts, N, class, member, Sound, AllBelow, Distinct, Hit, HitBy, mask, upto, in_cell, cells, CellRule, every, level, meets_cell_rule, are_below, are_distinct, is_hit}
+use Rattle.circuit.specs.Circuit.{Circuit, parts, N, class, member, Sound, AllBelow, Distinct, Hit, mask, upto, in_cell, cells, CellRule, every, level, meets_cell_rule, are_below, are_distinct, is_hit}
 use Rattle.circuit.proofs.Counting.{none_or_one}
 use Rattle.circuit.proofs.Rule.{cell_tells, cell-rule}
 

@@ -1,11 +1,10 @@
 -- That labels of one class are alike, and alike labels of one class.
-use Rattle.std.proofs.Common.{◌≡◌, ℕ, zero, suc, ◌+◌, ◌<◌, ◌≤◌, Bool, true, false, cond, ◌||◌, T, ltb, ◌⊎◌, ◌↔◌, List, [], ◌∷◌, map, length, get_or, Ok, Err, Result, sym, refl, ap, ◌∙◌, subst, inl, inr, arith, ltb-false, ltb-true}
+use Rattle.std.proofs.Common.{◌≡◌, ℕ, zero, suc, ◌+◌, ◌<◌, ◌≤◌, Bool, true, false, cond, ◌||◌, T, ltb, ◌⊎◌, ◌↔◌, List, [], ◌∷◌, map, length, get_or, Ok, Result, sym, refl, ap, ◌∙◌, subst, inl, inr, arith, ltb-false, ltb-true}
 use Rattle.labels.specs.Classes.{first, unfit, class}
-use Rattle.std.proofs.lemmas.Bool.{cases_Bool, or_left, or_right, cond-true}
 use Rattle.circuit.specs.declared.refusal.Reason.{Reason}
 use Rattle.circuit.specs.declared.refusal.Reason.TheVariants.{LabelCount, ClassRoom, UnfitLabel}
 use Rattle.circuit.specs.declared.refusal.Refusal.{Refusal}
-use Rattle.labels.specs.Refusals.{verdict, refused}
+use Rattle.labels.specs.Refusals.{refused}
 use Rattle.labels.specs.Alike.{In, Tells, alike_to, alike_at, Wrote}
 
 both : (a b : Bool) → (T a → T b) → (T b → T a) → a ≡ b

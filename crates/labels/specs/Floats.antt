@@ -1,11 +1,11 @@
 -- That equal floats are an equivalence, away from nan.
-use Rattle.std.specs.Prelude.{◌≡◌, ℕ, ◌+◌, ◌*◌, ◌<◌, ◌≤◌, Bool, true, false, ◌&&◌, ◌||◌, T, ℤ, ◌==◌, refl, Float}
-use Rattle.std.proofs.Common.{sym, ap, subst, ◌∙◌, mul_comm, mul_assoc, mul_right_comm, zero-mul, arith, eqb-true}
+use Rattle.std.specs.Prelude.{◌≡◌, ℕ, ◌*◌, ◌<◌, Bool, true, false, ◌||◌, T, ◌==◌, refl, Float}
+use Rattle.std.proofs.Common.{sym, ap, subst, ◌∙◌, mul_right_comm, zero-mul, eqb-true}
 use Rattle.std.specs.Bool.{beq}
 use Rattle.std.proofs.Math.Nat.{eq_of_mul-eq-mul_right}
 use Rattle.std.proofs.Math.Dec.{eqb_refl}
 use Rattle.std.specs.Float.Ieee.{up, down, level, eq}
-use Rattle.std.specs.Float.Ieee.Fits.{up_pos, down_pos, and_i, and_l, and_r, eq→eqb}
+use Rattle.std.specs.Float.Ieee.Fits.{down_pos, and_i, and_l, and_r, eq→eqb}
 use Rattle.std.specs.Float.{float_is_finite, nan, inf, fin}
 
 true_from : (b : Bool) → T b → b ≡ true

@@ -1,8 +1,8 @@
 -- A hit line, read as a sheet's line is.
-use Rattle.std.proofs.Common.{◌≡◌, ℕ, ◌^◌, ◌<◌, cond, List, [], ◌∷◌, ◌++◌, map, length, Some, decimal, Option, sym, refl, ap, ◌∙◌, append-nil, arith}
+use Rattle.std.proofs.Common.{◌≡◌, ℕ, ◌<◌, cond, List, [], ◌∷◌, ◌++◌, map, Some, decimal, sym, refl, ap, ◌∙◌, append-nil, arith}
 use Rattle.std.specs.List.{flat_map, AllByRecursion}
 use Rattle.std.proofs.lemmas.Bool.{ne_eqb}
-use Rattle.sheets.specs.Lines.{Line, closed, lines, fields, fronted}
+use Rattle.sheets.specs.Lines.{lines, fields, fronted}
 use Rattle.sheets.specs.Numbers.{numeral}
 use Rattle.sheets.specs.Laws.{Without}
 use Rattle.sheets.proofs.Back.{numeral_decimal, without_decimal}

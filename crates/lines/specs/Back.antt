@@ -1,7 +1,7 @@
 -- A line of numbers, read as a sheet's line is.
-use Rattle.std.specs.Prelude.{◌≡◌, ℕ, ◌<◌, List, [], ◌∷◌, map, length, Some, decimal, Option}
+use Rattle.std.specs.Prelude.{◌≡◌, ℕ, ◌<◌, List, [], ◌∷◌, map, length, Some, decimal}
 use Rattle.std.specs.List.{AllByRecursion}
-use Rattle.sheets.specs.Lines.{Line, closed, lines, fields}
+use Rattle.sheets.specs.Lines.{closed, lines, fields}
 use Rattle.sheets.specs.Numbers.{numeral}
 use Rattle.lines.specs.Written.{hit_line, spaced}
 

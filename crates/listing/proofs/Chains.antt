@@ -1,9 +1,9 @@
 -- Lines one after another, and the calls that gave them.
-use Rattle.std.proofs.Common.{◌≡◌, ℕ, ◌+◌, ◌<◌, ◌≤◌, Bool, List, [], ◌∷◌, ◌++◌, map, take, IfOk, Ok, Err, Result, sym, refl, ap, ◌∙◌, subst, arith, MatchResult}
+use Rattle.std.proofs.Common.{◌≡◌, ℕ, ◌+◌, ◌<◌, ◌≤◌, Bool, List, [], ◌∷◌, ◌++◌, map, take, IfOk, Ok, Err, Result, sym, refl, subst, MatchResult}
 use Rattle.std.proofs.lemmas.List.{map_push, append-nil}
 use Rattle.circuit.specs.Circuit.{Circuit, N, Hit}
 use Rattle.promise.specs.Order.{Mark, end}
-use Rattle.promise.specs.Search.{hit, finished, paused, Next}
+use Rattle.promise.specs.Search.{hit, finished, paused}
 use Rattle.promise.specs.Promise.{Run, call, Right}
 use Rattle.promise.specs.Hits.{rules_of, Promised}
 use Rattle.promise.proofs.Left.{left, hit_falls, paused_falls}

@@ -1,10 +1,9 @@
 -- What a list writes.
-use Rattle.std.specs.Prelude.{◌≡◌, ℕ, Bool, List, [], ◌∷◌, ◌++◌, map, length, take}
-use Rattle.circuit.specs.Circuit.{Circuit, N, Hit}
+use Rattle.std.specs.Prelude.{◌≡◌, ℕ, List, [], ◌∷◌, ◌++◌, map, take}
+use Rattle.circuit.specs.Circuit.{Circuit, Hit}
 use Rattle.promise.specs.Order.{Mark, end}
 use Rattle.promise.specs.Search.{Rules, Answer, hit, finished, paused, Next}
-use Rattle.promise.specs.Promise.{Run, Right}
-use Rattle.promise.specs.Hits.{rules_of}
+use Rattle.promise.specs.Promise.{Right}
 use Rattle.lines.specs.Written.{hit_line, end_line, paused_line}
 use Rattle.listing.specs.declared.step.Step.{Step}
 use Rattle.listing.specs.declared.step.Step.TheVariants.{Found, Done, Rested, Broken}

@@ -1,11 +1,11 @@
 -- The cells of the parts on a start's nets, counted by key, are the cells of all parts.
-use Rattle.std.proofs.Common.{◌≡◌, ℕ, zero, suc, ◌+◌, ◌*◌, ◌/◌, ◌%◌, ◌^◌, ◌<◌, ◌≤◌, Bool, true, false, cond, not, ◌&&◌, eqb, ◌⊎◌, List, [], ◌∷◌, ◌++◌, length, get_or, count_by, Ordering, Less, Equal, Greater, sym, refl, ap, ◌∙◌, subst, inl, inr, ⊎_elim, not-suc-le-zero, one-add, arith}
+use Rattle.std.proofs.Common.{◌≡◌, ℕ, zero, suc, ◌+◌, ◌*◌, ◌%◌, ◌^◌, ◌<◌, ◌≤◌, Bool, true, false, cond, not, ◌&&◌, eqb, List, [], ◌∷◌, length, get_or, count_by, Ordering, Less, Equal, Greater, sym, refl, ap, ◌∙◌, ⊎_elim, one-add, arith}
 use Rattle.std.specs.Ordering.{is_eq, ordering_then, nat_cmp}
-use Rattle.std.specs.Cmp.{nat_cmp_total, unsigned_tied}
+use Rattle.std.specs.Cmp.{unsigned_tied}
 use Rattle.std.proofs.lemmas.List.Sums.{sum_by-cons}
 use Rattle.std.proofs.lemmas.Nat.{mod-pow-add, mod_low, pow_pos}
-use Rattle.std.proofs.lemmas.Bool.{cases_Bool, eqb-true, eq-eqb, ne_eqb, and_left, and_right, false≢true, both_ways}
-use Rattle.circuit.specs.Circuit.{Circuit, parts, net, class, member, on, On, Sound, bit, mask, count, in_cell, cells as cell-count}
+use Rattle.std.proofs.lemmas.Bool.{cases_Bool, eq-eqb, ne_eqb, and_left, and_right}
+use Rattle.circuit.specs.Circuit.{Circuit, parts, net, on, Sound, bit, mask, count, in_cell, cells as cell-count}
 use Rattle.circuit.proofs.Counting.{count_same}
 use Rattle.circuit.proofs.Masks.{mask_bit, mask_below, net_ascends, net_below}
 use Rattle.circuit.proofs.Rule.{cell_tells}

@@ -1,13 +1,11 @@
 -- Equal tallies are the cell rule; sizes under the rule.
-use Rattle.std.proofs.Common.{◌≡◌, ℕ, zero, suc, ◌+◌, ◌*◌, ◌<◌, ◌≤◌, Bool, true, false, cond, ◌&&◌, ◌⊎◌, List, [], ◌∷◌, ◌++◌, map, length, get_or, take, Decides, count_by, sym, refl, ap, ◌∙◌, subst, inl, inr, ⊎_elim, arith}
-use Rattle.std.proofs.lemmas.List.Sums.{sum_by-cons}
+use Rattle.std.proofs.Common.{◌≡◌, ℕ, zero, suc, ◌*◌, ◌≤◌, Bool, false, List, length, get_or, take, Decides, sym, refl, ap, ◌∙◌, arith}
 use Rattle.std.proofs.lemmas.List.{map-id}
 use Rattle.std.proofs.lemmas.List.FromFn.{take-map-range_with_len}
 use Rattle.std.proofs.lemmas.Bool.Decides.{Decides-like, same_from_decides}
-use Rattle.std.proofs.lemmas.Bool.{and_from}
-use Rattle.circuit.specs.Circuit.{Circuit, parts, net, class, member, on, On, Sound, In, Maps, same_class, bit, mask, upto, count, CellRule, meets_cell_rule, place}
-use Rattle.circuit.proofs.Counting.{count-tied, count_same}
-use Rattle.circuit.proofs.Masks.{length_upto, get_or_upto, on_below, net_ascends, net_below}
+use Rattle.circuit.specs.Circuit.{Circuit, parts, net, on, Sound, Maps, same_class, upto, count, CellRule, meets_cell_rule, place}
+use Rattle.circuit.proofs.Counting.{count-tied}
+use Rattle.circuit.proofs.Masks.{get_or_upto, on_below}
 use Rattle.circuit.proofs.Rule.{place_maps}
 use Rattle.circuit.proofs.Decided.{cell_rule_decided}
 use Rattle.circuit.proofs.Nets.{net_size, net_few}

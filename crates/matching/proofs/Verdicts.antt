@@ -1,10 +1,9 @@
 -- What map answers, way by way.
-use Rattle.std.proofs.Common.{◌≡◌, ℕ, suc, ◌+◌, ◌<◌, ◌≤◌, Bool, true, false, cond, ◌&&◌, eqb, ltb, List, [], ◌∷◌, length, Ok, sym, refl, ap, ◌∙◌, subst, arith}
+use Rattle.std.proofs.Common.{◌≡◌, ℕ, suc, ◌<◌, ◌≤◌, Bool, true, false, cond, ◌&&◌, ltb, List, [], ◌∷◌, length, Ok, sym, refl, ap, ◌∙◌, arith}
 use Rattle.std.proofs.lemmas.Bool.{cond-true, cond-false, eq-eqb, lt-ltb, le-ltb}
 use Rattle.circuit.specs.Circuit.{Circuit, parts, N, are_below, are_distinct, meets_cell_rule, is_hit}
 use Rattle.circuit.specs.declared.refusal.Reason.TheVariants.{TupleNet}
 use Rattle.matching.specs.Mapped.{past, refuse, verdict}
-use Rattle.matching.specs.declared.answer.MapAnswer.{MapAnswer}
 use Rattle.matching.specs.declared.answer.MapAnswer.TheVariants.{Map, NoHit}
 
 pub past_all : (n : ℕ) (t : List ℕ) → length t ≤ past n t → are_below n t ≡ true

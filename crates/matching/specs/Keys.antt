@@ -1,5 +1,5 @@
 -- The cells of the parts on a start's nets, each part once: at the first net of the start that has it.
-use Rattle.std.specs.Prelude.{◌≡◌, ℕ, zero, suc, ◌+◌, ◌%◌, ◌^◌, ◌<◌, Bool, true, false, cond, List, [], ◌∷◌, ◌++◌, length, ◌==◌, slice_index}
+use Rattle.std.specs.Prelude.{◌≡◌, ℕ, zero, suc, ◌+◌, ◌%◌, ◌^◌, ◌<◌, Bool, cond, List, [], ◌∷◌, ◌++◌, length, ◌==◌, slice_index}
 use Rattle.circuit.specs.Circuit.{Circuit, net, class, mask}
 use Rattle.matching.specs.declared.cell.Cell.{Cell}
 

@@ -1,6 +1,6 @@
 -- Each part of a pattern is on one of its nets.
-use Rattle.std.proofs.Common.{◌≡◌, ℕ, ◌+◌, ◌-◌, ◌<◌, ◌≤◌, List, [], length, get_or, take, sym, ap, ◌∙◌, subst, arith}
-use Rattle.circuit.specs.Circuit.{Circuit, parts, N, In, On, net}
+use Rattle.std.proofs.Common.{◌≡◌, ℕ, ◌+◌, ◌-◌, ◌<◌, [], length, get_or, take, sym, ap, ◌∙◌, subst, arith}
+use Rattle.circuit.specs.Circuit.{parts, N, In}
 use Rattle.circuit.proofs.Steps.{member_tells, member_shows}
 use Rattle.tables.specs.Tables.{start, cuts, Below}
 use Rattle.tables.specs.Cuts.{cuts_length, net_length, net_read}

@@ -1,10 +1,10 @@
 -- What every pattern is.
-use Rattle.std.specs.Prelude.{◌≡◌, ℕ, ◌<◌, ◌≤◌, List, length, take, Some, slice_index}
+use Rattle.std.specs.Prelude.{◌≡◌, ℕ, ◌<◌, ◌≤◌, length, take, Some, slice_index}
 use Rattle.std.proofs.Common.{sym, ap, subst, ◌∙◌, arith}
 use Rattle.std.proofs.lemmas.List.{length-take-le, get_or-take}
 use Rattle.std.proofs.lemmas.Bool.{cond-true, lt-ltb}
-use Rattle.circuit.specs.Circuit.{Circuit, Sound, Small, at}
-use Rattle.tables.specs.Tables.{circuit_of, Rises, Below}
+use Rattle.circuit.specs.Circuit.{Sound, Small, at}
+use Rattle.tables.specs.Tables.{Rises, Below}
 use Rattle.tables.specs.Cuts.{sound, cuts_length}
 use Rattle.pattern.specs.Drawn.{drawn}
 use Rattle.pattern.specs.declared.pattern.Pattern.{Pattern}

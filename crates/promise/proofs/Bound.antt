@@ -1,5 +1,5 @@
 -- Enough tries lead to the end: a start has a value below (N + 1) ^ m, and each try raises it.
-use Rattle.std.proofs.Common.{◌≡◌, ℕ, zero, suc, ◌+◌, ◌*◌, ◌^◌, ◌<◌, ◌≤◌, true, false, cond, ltb, ◌⊎◌, List, [], ◌∷◌, ◌++◌, length, sym, refl, ap, ◌∙◌, subst, inl, inr, mul-le-mul_right, suc-mul, arith}
+use Rattle.std.proofs.Common.{◌≡◌, ℕ, zero, suc, ◌+◌, ◌*◌, ◌^◌, ◌<◌, ◌≤◌, ltb, ◌⊎◌, List, [], ◌∷◌, length, refl, ap, inl, inr, mul-le-mul_right, suc-mul, arith}
 use native.Mathlib.Nat.{pow-succ', one-le-pow}
 use Rattle.std.proofs.lemmas.Bool.{cond_both, ltb-true}
 use Rattle.circuit.specs.Circuit.{AllBelow}

@@ -1,14 +1,14 @@
 -- The tries are lawful for the hits: a passing tuple is a hit, and each start with which a hit begins passes.
-use Rattle.std.proofs.Common.{◌≡◌, ℕ, ◌+◌, ◌<◌, ◌≤◌, Bool, true, ◌&&◌, List, ◌++◌, length, take, sym, refl, ap, ◌∙◌, subst, arith}
+use Rattle.std.proofs.Common.{◌≡◌, ℕ, ◌+◌, ◌≤◌, Bool, true, ◌&&◌, List, ◌++◌, length, refl, subst, arith}
 use Rattle.std.proofs.lemmas.Bool.{and_parts, and_from}
 use Rattle.std.proofs.lemmas.List.{take_at, length-append}
-use Rattle.circuit.specs.Circuit.{Circuit, N, parts, class, Sound, AllBelow, Hit, HitBy, same_class, meets_cell_rule, are_distinct}
+use Rattle.circuit.specs.Circuit.{Circuit, N, Sound, AllBelow, Hit, HitBy, same_class, meets_cell_rule, are_distinct}
 use Rattle.circuit.proofs.Rule.{cell-rule}
 use Rattle.circuit.proofs.Decided.{cell_rule_decided, distinct_decided}
 use Rattle.circuit.proofs.Fronts.{front-hit, hit-alike}
 use Rattle.promise.specs.Order.{Mark}
 use Rattle.promise.specs.Search.{Answer, Next}
-use Rattle.promise.specs.Promise.{Lawful, Promise, handed, tries, call}
+use Rattle.promise.specs.Promise.{Lawful, handed, tries, call}
 use Rattle.promise.specs.Hits.{passing, rules_of, Fit, Agree, AlikeHit, Promised, Called}
 use Rattle.promise.proofs.Kept as whole
 

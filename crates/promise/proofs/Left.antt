@@ -1,5 +1,5 @@
 -- How many tries are left at most; every Hit and every Paused makes them fewer.
-use Rattle.std.proofs.Common.{◌≡◌, ℕ, zero, suc, ◌+◌, ◌-◌, ◌^◌, ◌<◌, ◌≤◌, ◌⊎◌, List, sym, refl, ap, ◌∙◌, subst, inl, inr, ⊎_elim, arith}
+use Rattle.std.proofs.Common.{◌≡◌, ℕ, zero, suc, ◌+◌, ◌-◌, ◌^◌, ◌<◌, ◌≤◌, List, sym, refl, ◌∙◌, subst, ⊎_elim, arith}
 use Rattle.promise.specs.Order.{Mark, at, end}
 use Rattle.promise.specs.Search.{Rules, Start, after, opening, Quiet, hit, paused, Next}
 use Rattle.promise.specs.Promise.{Run}

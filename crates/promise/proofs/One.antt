@@ -1,5 +1,5 @@
 -- `Next` pins a call: from the same bookmark, budget and row there is one answer, one bookmark after and one row after.
-use Rattle.std.proofs.Common.{◌≡◌, ℕ, zero, suc, ◌+◌, ◌<◌, ◌≤◌, ◌⊎◌, List, [], ◌∷◌, ◌++◌, length, drop, sym, refl, ap, ◌∙◌, subst, inl, inr, arith}
+use Rattle.std.proofs.Common.{◌≡◌, ℕ, zero, suc, ◌<◌, ◌≤◌, ◌⊎◌, List, ◌++◌, length, drop, sym, ap, ◌∙◌, subst, inl, inr, arith}
 use Rattle.promise.specs.Order.{Mark, at, end}
 use Rattle.promise.specs.Search.{Rules, raise, tried, Found, after, Quiet, Answer, hit, finished, paused, refused, Next, InRange}
 use Rattle.promise.specs.Promise.{Same}

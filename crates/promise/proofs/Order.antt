@@ -1,8 +1,8 @@
 -- The order of starts: it is an order, and what raising and adding a 0 do in it.
-use Rattle.std.proofs.Common.{◌≡◌, ℕ, zero, suc, ◌+◌, ◌<◌, ◌≤◌, Bool, true, false, cond, ltb, ◌⊎◌, List, [], ◌∷◌, ◌++◌, length, sym, refl, ap, ◌∙◌, subst, inl, inr, append-nil, arith}
+use Rattle.std.proofs.Common.{◌≡◌, ℕ, suc, ◌+◌, ◌<◌, ◌≤◌, Bool, true, false, cond, ltb, ◌⊎◌, List, [], ◌∷◌, ◌++◌, length, sym, refl, ap, ◌∙◌, inl, inr, arith}
 use Rattle.std.proofs.lemmas.Bool.{cond_both, ltb-true, ltb-false, cases_order, cases_lt}
 use Rattle.circuit.specs.Circuit.{AllBelow}
-use Rattle.promise.specs.Order.{◌≺◌, In, Ascends, Mark, at, end, Before}
+use Rattle.promise.specs.Order.{◌≺◌, Mark, at, end, Before}
 use Rattle.promise.specs.Search.{raised, raise}
 
 pub ≺_nil : (s : List ℕ) → s ≺ [] → ⊥

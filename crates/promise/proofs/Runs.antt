@@ -1,10 +1,9 @@
 -- Any succession of calls: the hand_over stays right, and the rest of the promise.
-use Rattle.std.proofs.Common.{◌≡◌, ℕ, zero, suc, ◌+◌, ◌<◌, ◌≤◌, Bool, true, false, cond, ltb, ◌⊎◌, ◌↔◌, List, [], ◌∷◌, ◌++◌, length, take, drop, sym, refl, ap, ◌∙◌, subst, inl, inr, add-zero, arith}
+use Rattle.std.proofs.Common.{◌≡◌, ℕ, zero, suc, ◌+◌, ◌<◌, ltb, ◌⊎◌, ◌↔◌, List, [], ◌∷◌, ◌++◌, length, take, drop, sym, refl, ap, ◌∙◌, subst, inl, inr, arith}
 use Rattle.std.proofs.lemmas.Bool.{cond_both, ltb-true, ltb-false}
 use Rattle.std.proofs.lemmas.List.{append-nil, take_at}
-use Rattle.circuit.specs.Circuit.{AllBelow}
 use Rattle.promise.specs.Order.{◌≺◌, In, Ascends, Mark, at, end, Before}
-use Rattle.promise.specs.Search.{Rules, Start, raise, tried, Found, after, Quiet, opening, Answer, hit, finished, paused, refused, Next}
+use Rattle.promise.specs.Search.{Rules, raise, tried, Found, after, Quiet, opening, Answer, hit, finished, paused, refused, Next}
 use Rattle.promise.specs.Promise.{Lawful, Passed, handed, tries, Run, opened, call, Right, SaysHit, SaysFinished, Accepted}
 use Rattle.promise.proofs.Order.{≺_nil, before_trans, push_next}
 use Rattle.promise.proofs.Steps.{Valid, some_net, tried_valid, raise_self, found_tried, found_skips_none, quiet_skips_none, quiet_valid, quiet_keeps, quiet_after, quiet_looks}

@@ -1,10 +1,10 @@
 -- One try, and tries one after another: the bookmark stays a start, moves forward, and no hit is skipped.
-use Rattle.std.proofs.Common.{◌≡◌, ℕ, zero, suc, ◌+◌, ◌<◌, ◌≤◌, Bool, true, false, cond, ltb, ◌⊎◌, List, [], ◌∷◌, ◌++◌, length, sym, refl, ap, ◌∙◌, subst, inl, inr, arith}
-use Rattle.std.proofs.lemmas.Bool.{cond_both, cond-true, cond-false, ltb-true, ltb-false, le-ltb, both_ways}
+use Rattle.std.proofs.Common.{◌≡◌, ℕ, zero, suc, ◌<◌, ◌≤◌, true, false, ltb, ◌⊎◌, List, [], ◌∷◌, ◌++◌, length, sym, refl, ap, ◌∙◌, subst, inl, inr, arith}
+use Rattle.std.proofs.lemmas.Bool.{cond_both, ltb-true, ltb-false, both_ways}
 use Rattle.std.proofs.lemmas.List.{append-nil, length-append, length_push, nil_from_length}
 use Rattle.circuit.specs.Circuit.{AllBelow}
 use Rattle.promise.specs.Order.{◌≺◌, In, Ascends, Mark, at, end, Before}
-use Rattle.promise.specs.Search.{Rules, Start, raise, tried, Found, after, Quiet, opening}
+use Rattle.promise.specs.Search.{Rules, Start, raise, tried, Found, after, Quiet}
 use Rattle.promise.specs.Promise.{Lawful, Passed}
 use Rattle.promise.proofs.Order.{≺_irrefl, ≺_total, before_trans, Front, push_past, push_next, raise_only, raise_past, raise_fine, Fine, all_below_push}
 

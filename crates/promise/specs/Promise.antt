@@ -1,7 +1,7 @@
 -- What a search promises over any succession of calls.
-use Rattle.std.specs.Prelude.{◌≡◌, ℕ, ◌+◌, ◌^◌, ◌<◌, ◌≤◌, Bool, true, ◌⊎◌, ◌↔◌, List, [], ◌∷◌, ◌++◌, length, take}
+use Rattle.std.specs.Prelude.{◌≡◌, ℕ, ◌+◌, ◌^◌, ◌≤◌, true, ◌⊎◌, ◌↔◌, List, [], ◌∷◌, ◌++◌, length, take}
 use Rattle.circuit.specs.Circuit.{AllBelow}
-use Rattle.promise.specs.Order.{◌≺◌, In, Ascends, Mark, at, end, Before}
+use Rattle.promise.specs.Order.{In, Ascends, Mark, end, Before}
 use Rattle.promise.specs.Search.{Rules, Start, after, opening, Answer, hit, finished, paused, refused, Next}
 
 -- What ties the tries to the hits: a hit is a tuple, m numbers below N; a passing tuple is a hit; and each start with which a hit begins passes.

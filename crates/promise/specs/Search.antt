@@ -1,5 +1,5 @@
 -- One try, tries one after another, and one call of next.
-use Rattle.std.specs.Prelude.{◌≡◌, ℕ, zero, suc, ◌+◌, ◌<◌, ◌≤◌, Bool, true, false, cond, ◌⊎◌, List, [], ◌∷◌, ◌++◌, length, drop, ◌≢◌, nat_lt}
+use Rattle.std.specs.Prelude.{◌≡◌, ℕ, zero, suc, ◌+◌, ◌<◌, ◌≤◌, Bool, true, cond, ◌⊎◌, List, [], ◌∷◌, ◌++◌, length, drop, ◌≢◌, nat_lt}
 use Rattle.circuit.specs.Circuit.{AllBelow}
 use Rattle.promise.specs.Order.{Mark, at, end}
 

@@ -1,17 +1,17 @@
 -- Calls made one after another are a run, so all that is promised of runs holds of them.
-use Rattle.std.proofs.Common.{◌≡◌, ℕ, zero, suc, ◌+◌, ◌<◌, ◌≤◌, Bool, true, T, ◌↔◌, List, [], ◌∷◌, ◌++◌, map, length, get_or, take, drop, set, sym, refl, ap, ◌∙◌, subst, subst₂, arith}
+use Rattle.std.proofs.Common.{◌≡◌, ℕ, zero, suc, ◌+◌, ◌<◌, Bool, T, List, [], ◌∷◌, ◌++◌, map, length, get_or, take, drop, set, sym, refl, ap, ◌∙◌, subst, subst₂, arith}
 use Rattle.std.proofs.lemmas.List.{append-nil, append_assoc, length-map, drop_more, drop-set-lt, take_more, take_more_set}
-use Rattle.circuit.specs.Circuit.{Circuit, parts, class, N, Hit}
+use Rattle.circuit.specs.Circuit.{Circuit, class}
 use Rattle.promise.specs.Order.{Mark}
 use Rattle.promise.specs.Search.{Rules, opening, Next}
 use Rattle.promise.specs.Promise.{Run, opened, call, handed, tries}
-use Rattle.promise.specs.Hits.{rules_of, AlikeHit, Agree, Promised}
+use Rattle.promise.specs.Hits.{rules_of, Agree, Promised}
 use Rattle.labels.specs.Classes as labelled
-use Rattle.labels.specs.Alike.{Tells, Wrote, alike_at}
+use Rattle.labels.specs.Alike.{Wrote, alike_at}
 use Rattle.labels.proofs.Tells.{agree_at, wrote_tells}
 use Rattle.search.specs.Held.{said}
 use Rattle.runs.specs.declared.call.Call.{Call}
-use Rattle.runs.specs.Whole.{hand_over, all_tries, Through, Whole, ByLabels}
+use Rattle.runs.specs.Whole.{hand_over, all_tries, Through, Whole}
 
 module _ (R : Rules) where
   pub through_more : (cs cs' : List Call) (k k' k'' : Mark) (c c' : Call) → Through R k cs cs' k' → c'.budget ≡ c.budget → Next R k' c.budget c.row (said c'.answer) k'' c'.row

@@ -1,5 +1,5 @@
 -- How a search holds its bookmark, and what its answers say.
-use Rattle.std.specs.Prelude.{◌≡◌, ℕ, ◌<◌, ◌≤◌, Bool, true, false, cond, ◌&&◌, List, [], ◌∷◌, ◌++◌, map, length, take, Ok, Err, Result, nat_le, nat_lt}
+use Rattle.std.specs.Prelude.{ℕ, ◌≤◌, Bool, cond, ◌&&◌, List, [], ◌∷◌, ◌++◌, map, length, take, Ok, Err, Result, nat_le, nat_lt}
 use Rattle.circuit.specs.Circuit.{AllBelow, are_below}
 use Rattle.promise.specs.Order.{Mark, at, end}
 use Rattle.promise.specs.Search.{Rules, raise, Answer as Said, hit, finished, paused, refused}

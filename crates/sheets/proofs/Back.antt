@@ -1,5 +1,5 @@
 -- Rows that are written and read back.
-use Rattle.std.proofs.Common.{◌≡◌, ℕ, ◌+◌, ◌^◌, ◌<◌, ◌≤◌, Bool, true, false, cond, not, ◌&&◌, ◌||◌, eqb, ltb, leb, ◌⊎◌, List, [], ◌∷◌, ◌++◌, map, length, get_or, Some, None, Ok, Err, decimal, Option, sym, refl, ap, ◌∙◌, subst, inl, inr, arith, rules}
+use Rattle.std.proofs.Common.{◌≡◌, ℕ, ◌^◌, ◌<◌, ◌≤◌, true, false, not, ◌||◌, eqb, ◌⊎◌, List, [], ◌∷◌, ◌++◌, map, length, get_or, Some, None, Ok, decimal, sym, refl, ap, ◌∙◌, inl, inr, arith, rules}
 use Rattle.std.specs.List.{flat_map, AllByRecursion}
 use Rattle.std.specs.Char.{is_ascii_digit}
 use Rattle.std.specs.Str.{all_ascii_digits}
@@ -7,10 +7,10 @@ use Rattle.std.proofs.lemmas.Str.Parse.{IsNumeralModel, numerals_by_fold}
 use Rattle.std.proofs.lemmas.Fmt.{digits_decimal, digits_value-decimal, decimal_digit, decimal_nonempty, first_decimal, length-decimal-le}
 use Rattle.std.proofs.lemmas.Bool.{and_parts, and_from, or_left, or_right, lt-ltb, le-leb, eq-eqb, ne_eqb, not_from_false, cases_lt, cond-true, true≢false}
 use Rattle.sheets.specs.declared.entry.Join.{Join}
-use Rattle.sheets.specs.Lines.{Line, closed, lines, fields}
+use Rattle.sheets.specs.Lines.{closed}
 use Rattle.sheets.specs.Numbers.{value_on, shaped, numeral, at_most, index_of}
-use Rattle.sheets.specs.Rows.{join_row, join_names, two_fields, just_two, last_net}
-use Rattle.sheets.specs.Laws.{Without, ended_line, sheet_bytes, Says, Good, Holdable, join_text, joins_sheet, JoinsBack}
+use Rattle.sheets.specs.Rows.{join_row, join_names, just_two, last_net}
+use Rattle.sheets.specs.Laws.{Without, ended_line, Says, Holdable, join_text, joins_sheet, JoinsBack}
 use Rattle.sheets.proofs.Judged.{join_ok}
 use Rattle.sheets.proofs.Wholes.{fields_cut, good_read}
 use Rattle.sheets.proofs.Ends.{join_ends}

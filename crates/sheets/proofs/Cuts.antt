@@ -1,8 +1,8 @@
 -- Where the first byte c stands, and what is cut off there.
-use Rattle.std.proofs.Common.{◌≡◌, ℕ, suc, ◌+◌, ◌-◌, ◌<◌, ◌≤◌, Bool, true, false, cond, eqb, ltb, ◌⊎◌, List, [], ◌∷◌, ◌++◌, length, get_or, take, drop, sym, refl, ap, ◌∙◌, inl, inr, arith}
+use Rattle.std.proofs.Common.{◌≡◌, ℕ, suc, ◌+◌, ◌-◌, ◌<◌, ◌≤◌, Bool, true, false, cond, eqb, ltb, ◌⊎◌, List, [], ◌∷◌, length, get_or, take, drop, sym, refl, ap, ◌∙◌, inl, inr, arith}
 use Rattle.std.proofs.lemmas.List.{at_drop_more, at_drop_all, length-drop, drop-drop, take_all, drop_all, take-take, drop-take, length-take-le}
 use Rattle.std.proofs.lemmas.Bool.{lt-ltb, le-ltb, cases_lt}
-use Rattle.sheets.specs.Lines.{Line, closed, broken, led, lines, fronted, fields, upto}
+use Rattle.sheets.specs.Lines.{closed, broken, led, lines, fronted, fields, upto}
 
 module _ (c : ℕ) (s : List ℕ) (i : ℕ) where
   pub upto_more : i < length s → (b : Bool) → eqb (get_or s i 0) c ≡ b → upto c (drop i s) ≡ cond b 0 (suc (upto c (drop (i + 1) s)))

@@ -1,5 +1,5 @@
 -- A row is never read from a line that did not end.
-use Rattle.std.proofs.Common.{◌≡◌, ℕ, Bool, true, false, cond, List, Some, None, Ok, Err, Result, sym, refl, ap, ◌∙◌, arith}
+use Rattle.std.proofs.Common.{◌≡◌, ℕ, Bool, true, false, cond, List, None, Ok, refl, arith}
 use Rattle.labels.specs.declared.kinds.Measured.{Measured}
 use Rattle.sheets.specs.declared.entry.Join.{Join}
 use Rattle.sheets.specs.declared.entry.Rail.{Rail}

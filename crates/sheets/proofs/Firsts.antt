@@ -1,5 +1,5 @@
 -- The first bad line.
-use Rattle.std.proofs.Common.{◌≡◌, ℕ, ◌+◌, ◌<◌, ◌≤◌, Bool, true, false, cond, ◌&&◌, ltb, ◌⊎◌, List, [], ◌∷◌, ◌++◌, map, length, Ok, Err, Result, sym, refl, ap, ◌∙◌, subst, inl, inr, append_assoc, append-nil, arith}
+use Rattle.std.proofs.Common.{◌≡◌, ℕ, ◌+◌, ◌<◌, ◌≤◌, Bool, true, false, cond, ◌&&◌, ltb, ◌⊎◌, List, [], ◌∷◌, ◌++◌, map, length, Ok, Err, Result, sym, refl, ap, ◌∙◌, inl, inr, append_assoc, append-nil, arith}
 use Rattle.std.proofs.lemmas.Bool.{ltb-true, ltb-false, and_parts, and_from, true≢false}
 use Rattle.std.proofs.lemmas.Slice.Eq.{bytes_eq-Decides}
 use Rattle.std.specs.Str.{bytes_eq}
@@ -7,7 +7,7 @@ use Rattle.circuit.specs.declared.refusal.Refusal.{Refusal}
 use Rattle.sheets.specs.declared.fault.File.{File}
 use Rattle.sheets.specs.declared.fault.Fault.{Fault}
 use Rattle.sheets.specs.Lines.{Line, closed, lines}
-use Rattle.sheets.specs.Sheets.{fault_at, then_row, rows_on, sheet_lines, sheet_of}
+use Rattle.sheets.specs.Sheets.{fault_at, then_row, rows_on, sheet_lines}
 use Rattle.sheets.specs.Laws.{Says, Fails, Named, OneFault}
 use Rattle.circuit.specs.declared.refusal.Reason.TheVariants.{SheetSize, NamesLine}
 

@@ -1,9 +1,8 @@
 -- Lines that are good.
-use Rattle.std.proofs.Common.{◌≡◌, ℕ, ◌+◌, ◌<◌, ◌≤◌, Bool, true, false, cond, ltb, List, [], ◌∷◌, length, Some, None, Ok, Err, Option, Result, sym, refl, ap, ◌∙◌}
+use Rattle.std.proofs.Common.{◌≡◌, ℕ, ◌+◌, ◌<◌, ◌≤◌, cond, List, length, Some, Ok, Err, sym, ap, ◌∙◌}
 use Rattle.std.proofs.lemmas.Bool.{lt-ltb, le-ltb}
 use Rattle.sheets.specs.declared.entry.Join.{Join}
 use Rattle.sheets.specs.declared.entry.Rail.{Rail}
-use Rattle.circuit.specs.declared.refusal.Refusal.{Refusal}
 use Rattle.sheets.specs.Lines.{Line}
 use Rattle.sheets.specs.Numbers.{index_of}
 use Rattle.sheets.specs.Rows.{bad, kept, two_fields, one_field, join_row, join_by, joined_at, last_net, rail_row, rail_by, railed, last_rail}

@@ -1,12 +1,11 @@
 -- The fault of a line of a joins sheet is the least of what is wrong with it.
-use Rattle.std.proofs.Common.{◌≡◌, ℕ, ◌+◌, ◌<◌, ◌≤◌, Bool, true, false, cond, ltb, ◌⊎◌, List, length, Some, None, Ok, Err, Option, Result, sym, refl, ap, ◌∙◌, subst, inl, inr, arith}
+use Rattle.std.proofs.Common.{◌≡◌, ℕ, ◌+◌, ◌<◌, ◌≤◌, Bool, true, false, cond, ltb, ◌⊎◌, List, length, Some, None, Ok, Err, Option, Result, sym, refl, ◌∙◌, subst, inl, inr, arith}
 use Rattle.std.proofs.lemmas.Bool.{ltb-true, ltb-false}
 use Rattle.sheets.specs.declared.entry.Join.{Join}
 use Rattle.circuit.specs.declared.refusal.Refusal.{Refusal}
 use Rattle.circuit.specs.Refusals.{number_of}
-use Rattle.sheets.specs.Lines.{Line}
 use Rattle.sheets.specs.Numbers.{index_of}
-use Rattle.sheets.specs.Rows.{bad, kept, two_fields, join_row, join_by, joined_at, last_net}
+use Rattle.sheets.specs.Rows.{bad, kept, two_fields, join_by, joined_at, last_net}
 use Rattle.sheets.specs.Wrongs.{WrongPair, WrongJoin, Least, JoinsLeast}
 use Rattle.circuit.specs.declared.refusal.Reason.TheVariants.{FieldCount, NumberField, NetOrder, TableFull}
 

@@ -8,9 +8,8 @@ use Rattle.sheets.specs.declared.entry.Kind.{Kind}
 use Rattle.sheets.specs.declared.entry.Kind.TheVariants.{Resistor, Capacitor, Coded}
 use Rattle.circuit.specs.declared.refusal.Refusal.{Refusal}
 use Rattle.circuit.specs.Refusals.{number_of}
-use Rattle.sheets.specs.Lines.{Line}
 use Rattle.sheets.specs.Numbers.{kind_of, scaled, code_of}
-use Rattle.sheets.specs.Rows.{bad, kept, number_fault, measure, in_table, two_fields, part_row, part_by}
+use Rattle.sheets.specs.Rows.{bad, number_fault, measure, in_table, two_fields, part_by}
 use Rattle.sheets.specs.Wrongs.{value_in, WrongValue, WrongPart, Least, PartsLeast}
 use Rattle.circuit.specs.declared.refusal.Reason.TheVariants.{FieldCount, NumberField, KindField, TableFull}
 

@@ -1,13 +1,12 @@
 -- The fault of a line of a rails sheet is the least of what is wrong with it.
-use Rattle.std.proofs.Common.{◌≡◌, ℕ, ◌<◌, ◌≤◌, Bool, true, false, cond, ltb, ◌⊎◌, List, length, Some, None, Ok, Err, Option, Result, sym, refl, ap, ◌∙◌, subst, inl, inr, arith}
+use Rattle.std.proofs.Common.{◌≡◌, ℕ, ◌<◌, ◌≤◌, Bool, true, false, cond, ltb, ◌⊎◌, List, length, Some, None, Ok, Err, Option, Result, sym, refl, ◌∙◌, subst, inl, inr, arith}
 use Rattle.std.proofs.lemmas.Bool.{ltb-true, ltb-false}
 use Rattle.circuit.specs.Refusals.{number_of}
 use Rattle.circuit.specs.declared.refusal.Reason.TheVariants.{FieldCount, NumberField, NetOrder, TableFull}
 use Rattle.circuit.specs.declared.refusal.Refusal.{Refusal}
 use Rattle.sheets.specs.declared.entry.Rail.{Rail}
-use Rattle.sheets.specs.Lines.{Line}
 use Rattle.sheets.specs.Numbers.{index_of}
-use Rattle.sheets.specs.Rows.{bad, kept, one_field, rail_row, rail_by, railed, last_rail}
+use Rattle.sheets.specs.Rows.{bad, kept, one_field, rail_by, railed, last_rail}
 use Rattle.sheets.specs.Wrongs.{WrongSingle, WrongRail, Least, RailsLeast}
 
 module _ (before : List Rail) (a : List ℕ) where

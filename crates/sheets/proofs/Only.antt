@@ -1,15 +1,14 @@
 -- A joins sheet that is read is written from its rows.
-use Rattle.std.proofs.Common.{◌≡◌, ℕ, suc, ◌+◌, ◌^◌, ◌<◌, ◌≤◌, Bool, true, false, cond, not, ◌&&◌, ◌||◌, eqb, ltb, leb, ◌⊎◌, List, [], ◌∷◌, ◌++◌, map, length, get_or, Some, None, Ok, Err, decimal, Option, Result, sym, refl, ap, ◌∙◌, subst, inl, inr, append-nil, arith}
+use Rattle.std.proofs.Common.{◌≡◌, ℕ, ◌+◌, ◌^◌, ◌<◌, ◌≤◌, Bool, true, false, cond, not, ◌&&◌, ◌||◌, eqb, ltb, leb, ◌⊎◌, List, [], ◌∷◌, ◌++◌, length, get_or, Some, None, Ok, Err, decimal, Option, sym, refl, ap, ◌∙◌, subst, inl, inr, append-nil, arith}
 use Rattle.std.specs.List.{flat_map}
 use Rattle.std.specs.Str.{all_ascii_digits}
 use Rattle.std.proofs.lemmas.Fmt.{decimal-digits_value}
-use Rattle.std.proofs.lemmas.Bool.{and_parts, or_cases, ltb-true, ltb-false, leb-true, eqb-true, eqb-false, eq-eqb, not-true, true≢false}
-use Rattle.circuit.specs.declared.refusal.Refusal.{Refusal}
+use Rattle.std.proofs.lemmas.Bool.{and_parts, or_cases, ltb-true, ltb-false, leb-true, eqb-true, eq-eqb, not-true, true≢false}
 use Rattle.sheets.specs.declared.entry.Join.{Join}
-use Rattle.sheets.specs.Lines.{Line, closed, fields, fronted}
+use Rattle.sheets.specs.Lines.{closed, fields, fronted}
 use Rattle.sheets.specs.Numbers.{value_on, shaped, numeral, at_most, index_of}
 use Rattle.sheets.specs.Rows.{bad, kept, join_row, join_by, joined_at, join_names, just_two, last_net}
-use Rattle.sheets.specs.Laws.{ended_line, sheet_bytes, Says, Good, Holdable, join_text, joins_sheet, JoinsOnly}
+use Rattle.sheets.specs.Laws.{ended_line, Says, Holdable, join_text, JoinsOnly}
 use Rattle.sheets.proofs.Back.{own}
 use Rattle.sheets.proofs.Ends.{join_ends}
 use Rattle.sheets.proofs.Wholes.{read_good}

@@ -1,14 +1,14 @@
 -- The ends of the nets, and the pieces of the joins that they cut.
-use Rattle.std.proofs.Common.{◌≡◌, ℕ, zero, suc, ◌+◌, ◌-◌, ◌<◌, ◌≤◌, Bool, true, false, cond, eqb, ltb, leb, ◌⊎◌, List, [], ◌∷◌, ◌++◌, map, length, get_or, take, drop, Ok, filter, sym, refl, ap, ◌∙◌, inl, inr, append_assoc, append-nil, arith}
-use Rattle.std.specs.List.{range_with_len, AllByRecursion as All}
+use Rattle.std.proofs.Common.{◌≡◌, ℕ, zero, suc, ◌+◌, ◌-◌, ◌<◌, ◌≤◌, Bool, true, false, cond, ltb, leb, ◌⊎◌, List, [], ◌∷◌, ◌++◌, map, length, get_or, take, drop, sym, refl, ap, ◌∙◌, inl, inr, append_assoc, append-nil, arith}
+use Rattle.std.specs.List.{AllByRecursion as All}
 use Rattle.std.proofs.lemmas.List.{at_drop_more, at_drop_all, take-map, drop-map, length-map, length-append, get_or_push}
 use Rattle.std.proofs.lemmas.List.FromFn.{get_or-map-range_with_len}
 use Rattle.std.proofs.ByRecursion.{All-weaker}
 use Rattle.std.proofs.lemmas.Bool.{cases_lt, cases_order, lt-ltb, le-ltb, le-leb, lt-leb, leb-true, leb-false, eq-eqb, ne_eqb}
 use Rattle.sheets.specs.declared.entry.Join.{Join}
-use Rattle.sheets.specs.Rows.{last_net, join_row, join_names}
+use Rattle.sheets.specs.Rows.{last_net}
 use Rattle.sheets.specs.Laws.{Holdable}
-use Rattle.sheets.specs.Nets.{nets_of, front, ends_of, part_of, parts_of, Rising, piece, rows_in, NetsCut, NetsWhole, ReadsRising}
+use Rattle.sheets.specs.Nets.{nets_of, front, ends_of, part_of, parts_of, Rising, rows_in, NetsCut, NetsWhole, ReadsRising}
 use Rattle.sheets.proofs.Only.{joins_only}
 
 -- ## Steps of the loops

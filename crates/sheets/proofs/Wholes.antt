@@ -1,16 +1,15 @@
 -- Lines and fields are cut without loss, and the sheets that are read are the good ones.
-use Rattle.std.proofs.Common.{◌≡◌, ℕ, ◌+◌, ◌<◌, ◌≤◌, Bool, true, false, cond, ◌&&◌, eqb, ltb, List, [], ◌∷◌, ◌++◌, map, length, Ok, Err, Result, sym, refl, ap, ◌∙◌, subst, append_assoc, append-nil, arith, eqb-true}
+use Rattle.std.proofs.Common.{◌≡◌, ℕ, ◌+◌, Bool, true, false, cond, ◌&&◌, eqb, ltb, List, [], ◌∷◌, ◌++◌, map, length, Ok, Err, Result, sym, refl, ap, ◌∙◌, subst, append_assoc, append-nil, arith, eqb-true}
 use borrow.Author.Tests.{eqb-false}
-use Rattle.std.proofs.lemmas.Bool.{ne_eqb, eq-eqb, le-ltb, ltb-false, and_parts, true≢false}
+use Rattle.std.proofs.lemmas.Bool.{ne_eqb, le-ltb, ltb-false, and_parts}
 use Rattle.std.proofs.lemmas.Slice.Eq.{bytes_eq-Decides}
 use Rattle.std.specs.List.{flat_map, AllByRecursion}
 use Rattle.std.specs.Str.{bytes_eq}
 use Rattle.circuit.specs.declared.refusal.Refusal.{Refusal}
 use Rattle.sheets.specs.declared.fault.File.{File}
-use Rattle.sheets.specs.declared.fault.Fault.{Fault}
-use Rattle.sheets.specs.Lines.{Line, closed, broken, lines, led, fields, fronted}
+use Rattle.sheets.specs.Lines.{Line, closed, lines, led, fields, fronted}
 use Rattle.sheets.specs.Sheets.{fault_at, then_row, rows_on, sheet_lines, sheet_of}
-use Rattle.sheets.specs.Laws.{Without, shown, ended_line, sheet_bytes, Says, Good, ReadsGood, LinesWhole, LinesCut, FieldsCut}
+use Rattle.sheets.specs.Laws.{Without, shown, ended_line, Says, Good, LinesWhole, LinesCut, FieldsCut}
 use Rattle.circuit.specs.declared.refusal.Reason.TheVariants.{SheetSize, NamesLine}
 
 shown_led : (b : ℕ) (ls : List Line) → flat_map shown (led b ls) ≡ b ∷ flat_map shown ls

@@ -1,14 +1,11 @@
 -- Which byte strings are good sheets, without reading them.
-use Rattle.std.specs.Prelude.{◌≡◌, ℕ, ◌+◌, ◌<◌, ◌≤◌, Bool, true, cond, ◌⊎◌, List, [], ◌∷◌, ◌++◌, map, length, Ok, Err, decimal, Result, ◌≢◌}
-use Rattle.std.proofs.Common.{inl, inr}
+use Rattle.std.specs.Prelude.{◌≡◌, ℕ, ◌+◌, ◌<◌, ◌≤◌, cond, ◌⊎◌, List, [], ◌∷◌, ◌++◌, map, length, Ok, Err, decimal, Result, ◌≢◌}
 use Rattle.std.specs.List.{flat_map, AllByRecursion}
-use Rattle.labels.specs.declared.kinds.Measured.{Measured}
 use Rattle.circuit.specs.declared.refusal.Refusal.{Refusal}
 use Rattle.sheets.specs.declared.fault.File.{File}
 use Rattle.sheets.specs.declared.entry.Join.{Join}
-use Rattle.sheets.specs.declared.entry.Rail.{Rail}
 use Rattle.sheets.specs.Lines.{Line, closed, lines, fields}
-use Rattle.sheets.specs.Rows.{join_row, rail_row, part_row, join_names, rail_names, part_names, last_net}
+use Rattle.sheets.specs.Rows.{join_row, join_names, last_net}
 use Rattle.sheets.specs.Sheets.{sheet_of, fault_at}
 use Rattle.sheets.specs.declared.fault.Fault.{Fault}
 use Rattle.circuit.specs.declared.refusal.Reason.TheVariants.{SheetSize, NamesLine}

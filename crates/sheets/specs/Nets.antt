@@ -1,5 +1,5 @@
 -- The tables that a joins sheet's rows give: an end for each net, and the joins.
-use Rattle.std.specs.Prelude.{◌≡◌, ℕ, suc, ◌+◌, ◌-◌, ◌<◌, ◌≤◌, Bool, cond, List, [], ◌∷◌, map, length, take, drop, Ok, Err, vec_items, filter, Result, nat_eq, nat_le, slice_index}
+use Rattle.std.specs.Prelude.{◌≡◌, ℕ, suc, ◌+◌, ◌-◌, ◌<◌, ◌≤◌, cond, List, [], ◌∷◌, map, length, take, drop, Ok, Err, vec_items, filter, Result, nat_eq, nat_le, slice_index}
 use Rattle.std.specs.List.{range_with_len, AllByRecursion as All}
 use Rattle.sheets.specs.declared.entry.Join.{Join}
 use Rattle.sheets.specs.declared.fault.Fault.{Fault}

@@ -1,5 +1,5 @@
 -- What a line of each sheet says after the rows before it: a row, or the line's fault.
-use Rattle.std.specs.Prelude.{ℕ, ◌+◌, ◌-◌, Bool, true, false, cond, List, [], ◌∷◌, length, pos, Some, None, Ok, Err, codes, Option, Result, nat_lt, slice_index_or, Float}
+use Rattle.std.specs.Prelude.{ℕ, ◌+◌, ◌-◌, cond, List, [], ◌∷◌, length, pos, Some, None, Ok, Err, codes, Option, Result, nat_lt, slice_index_or}
 use Rattle.std.specs.Float.{binary64}
 use Rattle.std.specs.Float.Ieee.{of_int}
 use Rattle.labels.specs.declared.kinds.Measured.{Measured}

@@ -1,5 +1,5 @@
 -- A whole sheet: its rows, or its one fault.
-use Rattle.std.specs.Prelude.{◌≡◌, ℕ, ◌+◌, Bool, true, false, cond, ◌&&◌, ◌||◌, List, [], ◌∷◌, ◌++◌, length, Ok, Err, vec_items, Result, Vec, nat_lt}
+use Rattle.std.specs.Prelude.{◌≡◌, ℕ, ◌+◌, cond, ◌&&◌, List, [], ◌∷◌, ◌++◌, length, Ok, Err, vec_items, Result, Vec, nat_lt}
 use Rattle.std.specs.Str.{bytes_eq}
 use Rattle.circuit.specs.declared.refusal.Refusal.{Refusal}
 use Rattle.std.specs.declared.alloc.Global.{Global}

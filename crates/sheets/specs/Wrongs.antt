@@ -1,5 +1,5 @@
 -- Everything that is wrong with a line of a sheet; its fault is the smallest number at its smallest place.
-use Rattle.std.specs.Prelude.{◌≡◌, ℕ, ◌+◌, ◌<◌, ◌≤◌, ◌⊎◌, List, length, pos, Some, None, Ok, Err, Option}
+use Rattle.std.specs.Prelude.{◌≡◌, ℕ, ◌+◌, ◌<◌, ◌≤◌, ◌⊎◌, List, length, pos, Some, None, Err, Option}
 use Rattle.sheets.specs.declared.entry.Join.{Join}
 use Rattle.sheets.specs.declared.entry.Rail.{Rail}
 use Rattle.circuit.specs.declared.refusal.Refusal.{Refusal}

@@ -1,8 +1,8 @@
 -- What the check of the tables shows.
-use Rattle.std.proofs.Common.{◌≡◌, ℕ, zero, suc, ◌+◌, ◌-◌, ◌<◌, ◌≤◌, ◌⊎◌, List, [], ◌∷◌, length, get_or, sym, ap, ◌∙◌, subst, inl, inr, ⊎_elim, arith}
+use Rattle.std.proofs.Common.{◌≡◌, ℕ, zero, suc, ◌+◌, ◌-◌, ◌<◌, ◌≤◌, List, [], ◌∷◌, length, get_or, ap, ⊎_elim, arith}
 use Rattle.std.proofs.lemmas.Bool.{cases_lt}
-use Rattle.tables.specs.Tables.{start, Spans, Rises, Closes, Climbs, Below}
-use Rattle.tables.specs.Faults.{Fine, Stray, AllFine}
+use Rattle.tables.specs.Tables.{Spans, Rises, Closes, Climbs, Below}
+use Rattle.tables.specs.Faults.{AllFine}
 
 -- ends do not fall
 pub rising : (a : ℕ) (es : List ℕ) (i j : ℕ) → ((k : ℕ) → k < length es → get_or (a ∷ es) k 0 ≤ get_or es k 0) → i ≤ j → j ≤ length es → get_or (a ∷ es) i 0 ≤ get_or (a ∷ es) j 0

@@ -1,6 +1,6 @@
 -- What is wrong with an end or a join of three tables, and where it is wrong first.
-use Rattle.std.specs.Prelude.{◌≡◌, ℕ, ◌+◌, ◌-◌, ◌<◌, ◌≤◌, ◌⊎◌, List, ◌∷◌, length, slice_index, slice_index_or}
-use Rattle.tables.specs.Tables.{start, Spans, Rises, Closes, Climbs, Below}
+use Rattle.std.specs.Prelude.{◌≡◌, ℕ, ◌+◌, ◌-◌, ◌<◌, ◌≤◌, ◌⊎◌, List, length, slice_index, slice_index_or}
+use Rattle.tables.specs.Tables.{start, Spans, Closes, Climbs, Below}
 use Rattle.tables.specs.declared.faults.Misfit.{Misfit}
 use Rattle.tables.specs.declared.faults.Misfit.TheVariants.{End, Join}
 

@@ -1,5 +1,5 @@
 -- Three tables of numbers, and the circuit that they mean.
-use Rattle.std.specs.Prelude.{◌≡◌, ℕ, ◌+◌, ◌-◌, ◌<◌, ◌≤◌, List, [], ◌∷◌, length, slice_index, slice_range}
+use Rattle.std.specs.Prelude.{◌≡◌, ℕ, ◌+◌, ◌<◌, ◌≤◌, List, [], ◌∷◌, length, slice_index, slice_range}
 use Rattle.circuit.specs.Circuit.{Circuit}
 
 -- where net f begins: the end of the net before, 0 for the first

@@ -1,8 +1,7 @@
 -- What adding does, by the place that was found.
-use Rattle.std.proofs.Common.{◌≡◌, ℕ, zero, suc, ◌+◌, ◌<◌, ◌≤◌, Bool, true, false, cond, eqb, leb, List, [], ◌∷◌, ◌++◌, length, get_or, take, drop, set, Ok, Err, Result, Ordering, Less, Equal, Greater, sym, refl, ap, ◌∙◌, subst, zero-lt-suc, one-add, arith, eq-eqb, ne_eqb}
+use Rattle.std.proofs.Common.{◌≡◌, ℕ, zero, suc, ◌+◌, ◌<◌, ◌≤◌, Bool, cond, eqb, leb, List, [], ◌∷◌, ◌++◌, length, get_or, take, drop, set, Ok, Err, Result, Ordering, Less, Equal, Greater, sym, refl, ap, ◌∙◌, one-add}
 use Rattle.std.proofs.lemmas.List.{at_drop_more, at_drop_all}
 use Rattle.tally.specs.declared.entry.Entry.{Entry}
-use borrow.Author.Tests.{lt-leb}
 use Rattle.circuit.specs.declared.refusal.Reason.TheVariants.{TallyFull}
 use Rattle.circuit.specs.declared.refusal.Refusal.{Refusal}
 use Rattle.tally.specs.Tallies.{found, shift, by, by_found, counted, added, answer, bump, bumped}

@@ -1,5 +1,5 @@
 -- Counts after any number of keys; room for each.
-use Rattle.std.proofs.Common.{◌≡◌, ℕ, zero, suc, ◌+◌, ◌<◌, ◌≤◌, Bool, true, false, cond, eqb, leb, ◌⊎◌, List, [], ◌∷◌, ◌++◌, length, get_or, is_ok, Ok, Err, Decides, Result, Ordering, Less, Equal, Greater, sym, refl, ap, ◌∙◌, subst, inl, inr, ⊎_elim, not-suc-le-zero, arith}
+use Rattle.std.proofs.Common.{◌≡◌, ℕ, suc, ◌+◌, ◌<◌, ◌≤◌, false, cond, eqb, leb, ◌⊎◌, List, [], ◌∷◌, ◌++◌, length, get_or, is_ok, Ok, Err, Result, Ordering, Less, Equal, Greater, sym, refl, ap, ◌∙◌, subst, inl, inr, ⊎_elim, arith}
 use Rattle.std.specs.List.{AllByRecursion as All}
 use Rattle.std.proofs.ByRecursion.{All-weaker}
 use Rattle.std.proofs.lemmas.Bool.{ne_eqb, lt-leb}
@@ -8,7 +8,7 @@ use Rattle.std.specs.Cmp.{IsTotalOrder, alike_right}
 use Rattle.tally.specs.declared.entry.Entry.{Entry}
 use Rattle.circuit.specs.declared.refusal.Reason.TheVariants.{TallyFull}
 use Rattle.circuit.specs.declared.refusal.Refusal.{Refusal}
-use Rattle.tally.specs.Tallies.{by, by_found, shift, found, full, answer, counted, added, bump, tallied, tallied_on}
+use Rattle.tally.specs.Tallies.{by, by_found, found, answer, counted, added, bump, tallied, tallied_on}
 use Rattle.tally.specs.Levels.{LevelOn, times, Roomy}
 
 less_equal : Less ≡ Equal → ⊥

@@ -1,5 +1,5 @@
 -- Opening, then call after call.
-use Rattle.std.proofs.Common.{◌≡◌, List, [], length, take, Ok, sym, refl, ap, ◌∙◌, subst, subst₂, arith}
+use Rattle.std.proofs.Common.{List, [], Ok, sym, refl, subst₂, arith}
 use Rattle.std.proofs.lemmas.List.{take_all}
 use Rattle.circuit.specs.Circuit.{N}
 use Rattle.promise.specs.Search.{opening}

@@ -1,4 +1,4 @@
-use Rattle.std.proofs.Common.{◌≡◌, length, take, drop}
+use Rattle.std.proofs.Common.{◌≡◌, take, drop}
 use Rattle.circuit.specs.Circuit.{N}
 use Rattle.promise.specs.Search.{opening}
 use Rattle.promise.specs.Hits.{rules_of}

@@ -1,4 +1,4 @@
-use Rattle.std.proofs.Common.{◌≡◌, inl, inr, arith}
+use Rattle.std.proofs.Common.{inl, inr, arith}
 use Rattle.boards.specs.Faults.{limit}
 use Rattle.tables.proofs.Checks.{rises_from_spans}
 use Rattle.boards.proofs.Checks.{refused_for}

@@ -1,6 +1,6 @@
-use Rattle.std.proofs.Common.{◌≡◌, ◌≤◌, map, length, take, drop, Ok, sym, ap, ◌∙◌, arith, rules}
+use Rattle.std.proofs.Common.{◌≡◌, map, length, take, drop, Ok, sym, ap, ◌∙◌, arith, rules}
 use Rattle.std.proofs.lemmas.List.{take_at, length-map}
-use Rattle.labels.specs.Classes.{unfit, class}
+use Rattle.labels.specs.Classes.{class}
 use Rattle.labels.specs.Refusals.{verdict}
 use Rattle.labels.proofs.Tells.{fits_from, tells}
 use Rattle.labels.proofs.labelling.label_parts.Goals as goal

@@ -1,4 +1,4 @@
-use Rattle.std.proofs.Common.{◌≡◌, ℕ, ◌<◌, ◌≤◌, List, [], string_bytes, sym, refl, ap, ◌∙◌, subst, arith}
+use Rattle.std.proofs.Common.{[], string_bytes, sym, refl, subst, arith}
 use Rattle.circuit.specs.Circuit.{N}
 use Rattle.pattern.specs.Drawn.{drawn}
 use Rattle.pattern.specs.Kept.{nets_some}
@@ -9,7 +9,7 @@ use Rattle.search.specs.Held.{bookmark}
 use Rattle.sieves.specs.Counts.{looked_up}
 use Rattle.lines.specs.Written.{end_line, paused_line}
 use Rattle.listing.specs.declared.step.Outcome.TheVariants.{Ended, Paused}
-use Rattle.listing.proofs.Chains.{SoFar, found_falls, rested_falls, found_more, rested_more, done, broken_off, last_known}
+use Rattle.listing.proofs.Chains.{found_falls, rested_falls, found_more, rested_more, done, broken_off, last_known}
 use Rattle.listing.proofs.lister.list_hits.Goals as goal
 
 pub loop-out-init : goal.loop-out-init

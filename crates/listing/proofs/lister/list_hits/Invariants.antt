@@ -1,4 +1,4 @@
-use Rattle.std.proofs.Common.{ℕ, ◌<◌}
+use Rattle.std.proofs.Common.{◌<◌}
 use Rattle.circuit.specs.Circuit.{N}
 use Rattle.pattern.specs.Drawn.{drawn}
 use Rattle.promise.specs.Hits.{rules_of}

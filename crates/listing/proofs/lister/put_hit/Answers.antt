@@ -1,4 +1,4 @@
-use Rattle.std.proofs.Common.{◌≡◌, ℕ, ◌-◌, List, length, take, IfOk, string_bytes, sym, ap, ◌∙◌, subst, arith}
+use Rattle.std.proofs.Common.{◌≡◌, ℕ, ◌-◌, take, IfOk, string_bytes, subst, arith}
 use Rattle.circuit.specs.Circuit.{N}
 use Rattle.pattern.specs.Drawn.{drawn}
 use Rattle.lines.specs.Written.{hit_line}

@@ -1,10 +1,10 @@
-use Rattle.std.proofs.Common.{◌≡◌, ℕ, ◌+◌, ◌-◌, ◌*◌, ◌<◌, ◌≤◌, List, length, get_or, take, sym, refl, ap, ◌∙◌, subst, arith}
+use Rattle.std.proofs.Common.{◌≡◌, ℕ, ◌-◌, List, length, take, refl, ap, ◌∙◌, arith}
 use Rattle.std.proofs.lemmas.Bool.{both_ways}
 use Rattle.circuit.specs.Circuit.{upto}
 use Rattle.circuit.proofs.Masks.{length_upto}
 use Rattle.matching.specs.Orders.{by_cell, cells}
 use Rattle.tally.specs.Tallies.{tallied}
-use Rattle.matching.specs.Keys.{sizes, keys}
+use Rattle.matching.specs.Keys.{keys}
 use Rattle.matching.proofs.Ruled.{sizes_few, sizes_same, sizes_rule, level_rule}
 use Rattle.matching.proofs.agree.cells_agree.Goals as goal
 

@@ -1,4 +1,4 @@
-use Rattle.std.proofs.Common.{◌≡◌, ℕ, suc, ◌+◌, ◌<◌, ◌≤◌, length, get_or, take, sym, ap, ◌∙◌, subst, add-one, arith}
+use Rattle.std.proofs.Common.{ℕ, suc, length, sym, ap, ◌∙◌, add-one, arith}
 use Rattle.tally.specs.Tallies.{tallied}
 use Rattle.matching.specs.Orders.{by_cell}
 use Rattle.matching.specs.Keys.{keys}

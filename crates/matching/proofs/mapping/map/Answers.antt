@@ -1,7 +1,7 @@
-use Rattle.std.proofs.Common.{◌≡◌, ℕ, ◌+◌, ◌<◌, ◌≤◌, Bool, true, false, cond, ◌&&◌, List, length, replicate, sym, refl, ap, ◌∙◌, subst, arith, rules}
+use Rattle.std.proofs.Common.{◌≡◌, ℕ, length, replicate, sym, ap, ◌∙◌, arith, rules}
 use Rattle.std.proofs.lemmas.List.{length-replicate}
 use Rattle.std.proofs.lemmas.Bool.{and_parts}
-use Rattle.circuit.specs.Circuit.{N, are_distinct, meets_cell_rule, parts}
+use Rattle.circuit.specs.Circuit.{N, are_distinct, meets_cell_rule}
 use Rattle.pattern.specs.Drawn.{drawn}
 use Rattle.circuit.specs.declared.refusal.Reason.TheVariants.{TupleNet}
 use Rattle.matching.specs.Mapped.{past, refuse}

@@ -1,8 +1,8 @@
-use Rattle.std.proofs.Common.{◌≡◌, arith}
+use Rattle.std.proofs.Common.{arith}
 use Rattle.sheets.proofs.Wholes.{read_good, good_read}
 use Rattle.sheets.proofs.Ends.{part_ends, join_ends, rail_ends}
 use Rattle.sheets.specs.Rows.{join_row, rail_row, part_row, join_names, rail_names, part_names}
-use Rattle.sheets.specs.Laws.{ReadsGood, Without}
+use Rattle.sheets.specs.Laws.{Without}
 use Rattle.sheets.proofs.laws.good_sheets_are_read.Goals as goal
 
 parts : Without 10 part_names

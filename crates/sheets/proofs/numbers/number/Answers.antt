@@ -1,4 +1,4 @@
-use Rattle.std.proofs.Common.{◌≡◌, ◌+◌, ◌-◌, ◌*◌, ◌^◌, ◌<◌, ◌≤◌, true, false, length, get_or, drop, sym, refl, ap, ◌∙◌, arith, rules}
+use Rattle.std.proofs.Common.{◌+◌, ◌*◌, true, false, get_or, drop, sym, refl, ap, ◌∙◌, arith}
 use Rattle.sheets.specs.Numbers.{value_on}
 use Rattle.sheets.proofs.Digits.{digit_more, within_nine, digit_low, all_more, value_more, all_all, value_all, not_number, a_number}
 use Rattle.sheets.proofs.numbers.number.Goals as goal

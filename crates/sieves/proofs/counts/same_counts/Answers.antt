@@ -1,7 +1,5 @@
-use Rattle.std.proofs.Common.{◌≡◌, ℕ, ◌-◌, ◌≤◌, length, take, sym, ap, ◌∙◌, arith}
+use Rattle.std.proofs.Common.{◌≡◌, ℕ, ◌-◌, take, sym, ap, ◌∙◌, arith}
 use Rattle.std.specs.Cmp.{nat_cmp_total}
-use Rattle.std.proofs.lemmas.List.{length-replicate}
-use Rattle.circuit.specs.Circuit.{net}
 use Rattle.circuit.proofs.Nets.{net_few}
 use Rattle.pattern.specs.Drawn.{drawn}
 use Rattle.pattern.specs.Kept.{drawn_sound, parts_few}

@@ -1,5 +1,5 @@
 use Rattle.std.proofs.Common.{◌≡◌, ℕ, ◌-◌, min, length, get_or, take, drop, sym, ap, ◌∙◌, rules}
-use Rattle.std.proofs.lemmas.Bool.{cond_below, cond_above}
+use Rattle.std.proofs.lemmas.Bool.{cond_below}
 use Rattle.tables.specs.Tables.{start}
 use Rattle.tables.specs.Cuts.{cuts_at, cuts_past}
 use Rattle.tables.proofs.Clipped.{clipped}

@@ -1,11 +1,11 @@
-use Rattle.std.proofs.Common.{◌≡◌, ◌<◌, ◌≤◌, Bool, true, false, ◌&&◌, leb, length, sym, refl, ap, ◌∙◌, arith}
+use Rattle.std.proofs.Common.{◌<◌, ◌≤◌, Bool, ◌&&◌, length, sym, refl, ap, ◌∙◌, arith}
 use Rattle.std.proofs.lemmas.Bool.{le-leb, lt-leb}
 use Rattle.std.proofs.lemmas.Bool.Decides.{Decides-like, Decides-at}
 use Rattle.circuit.specs.Circuit.{N, meets_cell_rule}
 use Rattle.circuit.proofs.Rule.{cell-rule}
 use Rattle.circuit.proofs.Decided.{cell_rule_decided}
 use Rattle.pattern.specs.Drawn.{drawn}
-use Rattle.pattern.specs.Kept.{drawn_sound, nets_few, parts_few}
+use Rattle.pattern.specs.Kept.{drawn_sound, parts_few}
 use Rattle.matching.proofs.start.CellTest.holds.Goals as goal
 
 pub returns-then-start-net_count : goal.returns-then-start-net_count

@@ -1,4 +1,4 @@
-use Rattle.std.proofs.Common.{◌≡◌, ℕ, List, length, take, sym, refl, ap, ◌∙◌, subst, subst₂, arith, lit≤}
+use Rattle.std.proofs.Common.{ℕ, List, length, take, sym, ap, ◌∙◌, subst, subst₂, lit≤}
 use Rattle.tables.specs.Tables.{circuit_of, Spans, Closes, Climbs, Below}
 use Rattle.pattern.specs.Whole.{Covers}
 use Rattle.pattern.proofs.Few.{joins_few}

@@ -1,4 +1,4 @@
-use Rattle.std.proofs.Common.{◌≡◌, ℕ, ◌+◌, ◌-◌, ◌<◌, ◌≤◌, Bool, true, false, ◌⊎◌, List, length, get_or, take, set, sym, refl, ap, ◌∙◌, subst, inl, inr, arith, rules}
+use Rattle.std.proofs.Common.{ℕ, ◌+◌, ◌<◌, List, length, take, sym, ap, ◌∙◌, subst, inl, inr, arith}
 use Rattle.circuit.specs.Circuit.{AllBelow}
 use Rattle.promise.proofs.Steps.{some_net}
 use Rattle.search.specs.Held.{held, nets, standing}

@@ -1,10 +1,10 @@
-use Rattle.std.proofs.Common.{◌≡◌, ℕ, ◌+◌, ◌-◌, ◌<◌, ◌≤◌, List, length, get_or, take, set, sym, refl, ap, ◌∙◌, subst, arith, rules}
+use Rattle.std.proofs.Common.{◌≡◌, ◌+◌, ◌-◌, ◌<◌, ◌≤◌, length, get_or, take, set, sym, ap, ◌∙◌, subst, arith}
 use Rattle.std.proofs.lemmas.List.{take-set, length-set, get_or-set_same}
 use Rattle.circuit.specs.Circuit.{AllBelow}
 use Rattle.promise.specs.Search.{raise}
 use Rattle.search.specs.Held.{standing}
 use Rattle.search.proofs.Raised.{below_at, below_fewer, climb_stops, climb_goes_on}
-use Rattle.search.specs.Held.{nets, held}
+use Rattle.search.specs.Held.{nets}
 use Rattle.search.specs.declared.bookmark.Level.{Level}
 use Rattle.search.proofs.Nets.{nets_length, nets_at, nets_set}
 use Rattle.search.proofs.bookmark.Search.climb.Goals as goal

@@ -1,4 +1,4 @@
-use Rattle.std.proofs.Common.{◌≡◌, ℕ, ◌+◌, ◌-◌, ◌<◌, ◌≤◌, Bool, true, false, ◌&&◌, ltb, leb, length, get_or, take, sym, refl, ◌∙◌, arith, rules}
+use Rattle.std.proofs.Common.{◌<◌, ◌&&◌, ltb, leb, length, sym, arith}
 use Rattle.std.proofs.lemmas.Bool.{and_right}
 use Rattle.circuit.specs.Circuit.{are_below}
 use Rattle.search.specs.Held.{held, nets}

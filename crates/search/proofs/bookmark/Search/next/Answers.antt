@@ -1,5 +1,5 @@
 -- A call of next does what `Next` says.
-use Rattle.std.proofs.Common.{◌≡◌, ℕ, ◌+◌, ◌-◌, ◌<◌, ◌≤◌, Bool, true, false, ◌⊎◌, List, ◌++◌, length, get_or, take, drop, sym, refl, ap, ◌∙◌, subst, inl, inr, add-one, arith}
+use Rattle.std.proofs.Common.{◌≡◌, ℕ, ◌+◌, ◌<◌, ◌≤◌, true, false, ◌⊎◌, length, sym, refl, ap, ◌∙◌, subst, inl, inr, add-one, arith}
 use Rattle.promise.specs.Search.{Quiet}
 use Rattle.promise.specs.Hits.{passing}
 use Rattle.pattern.specs.Drawn.{drawn}

@@ -1,5 +1,5 @@
 -- A search that was just opened stands at the opening, and all that is promised of it holds.
-use Rattle.std.proofs.Common.{◌≡◌, ◌⊎◌, sym, refl, ap, ◌∙◌, inl, inr}
+use Rattle.std.proofs.Common.{sym, refl, ◌∙◌, inl, inr}
 use Rattle.circuit.specs.Circuit.{N}
 use Rattle.promise.proofs.Lawful.{promised}
 use Rattle.pattern.specs.Drawn.{drawn}

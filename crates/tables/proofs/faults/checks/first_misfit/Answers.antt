@@ -1,4 +1,4 @@
-use Rattle.std.proofs.Common.{◌≡◌, ℕ, ◌<◌, ◌≤◌, sym, ◌∙◌, inl, inr, arith}
+use Rattle.std.proofs.Common.{sym, ◌∙◌, arith}
 use Rattle.tables.specs.Tables.{Spans, Closes}
 use Rattle.tables.proofs.Checks.{climbs, under, rises_from_spans}
 use Rattle.tables.proofs.faults.checks.first_misfit.Goals as goal

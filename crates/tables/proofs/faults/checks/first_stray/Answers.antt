@@ -1,7 +1,7 @@
 use Rattle.std.proofs.Common.{◌≡◌, ℕ, suc, ◌<◌, ◌≤◌, List, ◌∷◌, length, get_or, sym, ap, ◌∙◌, subst, ⊎_elim, arith}
 use Rattle.std.proofs.lemmas.Bool.{cases_order, cases_lt}
 use Rattle.tables.specs.Tables.{start, Rises}
-use Rattle.tables.specs.Faults.{Fine, Stray, AllFine}
+use Rattle.tables.specs.Faults.{Fine, AllFine}
 use Rattle.tables.specs.Cuts.{end_within}
 use Rattle.tables.proofs.Checks.{rising}
 use Rattle.tables.proofs.faults.checks.first_stray.Goals as goal

@@ -1,8 +1,7 @@
-use Rattle.std.proofs.Common.{◌≡◌, ℕ, ◌+◌, ◌<◌, ◌≤◌, Bool, true, false, cond, eqb, leb, List, length, get_or, take, drop, Ok, Err, Result, sym, refl, ap, ◌∙◌, arith, eq-eqb, ne_eqb, le-leb}
+use Rattle.std.proofs.Common.{◌≡◌, ℕ, ◌<◌, ◌≤◌, true, false, List, length, get_or, take, sym, refl, ap, ◌∙◌, arith, eq-eqb, ne_eqb, le-leb}
 use borrow.Author.Tests.{lt-leb}
 use Rattle.std.proofs.lemmas.List.{get_or-take, length-take, length-take-le}
 use Rattle.tally.specs.declared.entry.Entry.{Entry}
-use Rattle.tally.specs.Tallies.{found, counted, by_found, answer}
 use Rattle.tally.proofs.Adds.{take_bumped, added_at, added_gap, answer_at, answer_gap}
 use Rattle.tally.proofs.Inserts.{front_list}
 use Rattle.tally.proofs.table.Tally.add.Goals as goal

@@ -1,7 +1,7 @@
-use Rattle.std.proofs.Common.{◌≡◌, cond, List, length, take, is_ok, Result, ap, ◌∙◌}
+use Rattle.std.proofs.Common.{cond, List, take, is_ok, Result, ap, ◌∙◌}
 use Rattle.circuit.specs.declared.refusal.Refusal.{Refusal}
 use Rattle.tally.specs.declared.entry.Entry.{Entry}
-use Rattle.tally.specs.Tallies.{added, answer}
+use Rattle.tally.specs.Tallies.{added}
 use Rattle.tally.proofs.table.Tally.put.Goals as goal
 
 pub returns : goal.returns
