@@ -1,7 +1,7 @@
 -- A circuit some of whose nets are blanked.
 use Rattle.std.specs.Prelude.{◌≡◌, ℕ, suc, Bool, true, false, cond, List, [], ◌∷◌, length, refl}
 use Rattle.std.proofs.Common.{ap, arith}
-use Rattle.std.specs.List.{AllByRecursion as All}
+use Rattle.std.specs.List.{AllByRecursion}
 use Rattle.circuit.specs.Circuit.{Circuit, Sound, Small, Ascends, AllBelow, parts}
 
 -- each net with a mark is empty
@@ -19,7 +19,7 @@ blanked_length [] (n ∷ ns) = refl
 blanked_length (m ∷ ms) (n ∷ ns) = ap suc (blanked_length ms ns)
 
 -- what holds of each net, and of an empty one, holds of each net that is left
-blanked_all : (P : List ℕ → Type 0) → P [] → (ms : List Bool) (ns : List (List ℕ)) → All P ns → All P (blanked ms ns)
+blanked_all : (P : List ℕ → Type 0) → P [] → (ms : List Bool) (ns : List (List ℕ)) → AllByRecursion P ns → AllByRecursion P (blanked ms ns)
 blanked_all P none ms [] h = tt
 blanked_all P none [] (n ∷ ns) h = h
 blanked_all P none (true ∷ ms) (n ∷ ns) h = (none, blanked_all P none ms ns h.1)

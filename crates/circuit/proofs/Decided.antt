@@ -1,6 +1,6 @@
 -- The cell rule and a hit, by tests that compute.
 use Rattle.std.proofs.Common.{◌≡◌, ℕ, zero, suc, ◌<◌, Bool, true, false, not, ◌&&◌, ◌||◌, eqb, ltb, ◌⊎◌, List, [], ◌∷◌, length, Decides, sym, refl, ◌∙◌, subst₂, inl, inr, ⊎_elim, arith}
-use Rattle.std.specs.List.{AllByRecursion as All}
+use Rattle.std.specs.List.{AllByRecursion}
 use Rattle.std.proofs.lemmas.Bool.{eqb-true, eqb-false, false≢true}
 use Rattle.std.proofs.lemmas.Bool.Decides.{Decides-eqb, Decides-ltb, Decides-and, Decides-or, Decides-like, Decides-below_and}
 use Rattle.std.proofs.ByRecursion.{Decides-by_and}
@@ -65,13 +65,13 @@ module _ (p : Circuit) (k : ℕ) (b : Circuit) (s : List ℕ) where
 pub below_decided : (n : ℕ) (s : List ℕ) → Decides (are_below n s) (AllBelow n s)
 below_decided n s = Decides-by_and (λ x. ltb x n) (λ x. x < n) (are_below n) (λ x. Decides-ltb x n) refl (λ _ _. refl) s
 
-absent : (xs : List ℕ) (x : ℕ) → Decides (not (member xs x)) (All (λ y. x ≡ y → ⊥) xs)
+absent : (xs : List ℕ) (x : ℕ) → Decides (not (member xs x)) (AllByRecursion (λ y. x ≡ y → ⊥) xs)
 absent [] x = (λ _. tt, λ _. refl)
 absent (y ∷ ys) x = go (absent ys x) (eqb y x) refl
   where
     go :
-        Decides (not (member ys x)) (All (λ z. x ≡ z → ⊥) ys) → (t : Bool) → eqb y x ≡ t →
-        Decides (not (t || member ys x)) ((x ≡ y → ⊥) × All (λ z. x ≡ z → ⊥) ys)
+        Decides (not (member ys x)) (AllByRecursion (λ z. x ≡ z → ⊥) ys) → (t : Bool) → eqb y x ≡ t →
+        Decides (not (t || member ys x)) ((x ≡ y → ⊥) × AllByRecursion (λ z. x ≡ z → ⊥) ys)
     go below true e = (λ z. absurd (false≢true z), λ (n, a). absurd (n (sym (eqb-true y x e))))
     go below false e = (λ z. (λ q. eqb-false y x e (sym q), below.0 z), λ (n, a). below.1 a)
 

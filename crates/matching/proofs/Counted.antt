@@ -5,7 +5,7 @@ use Rattle.std.specs.Cmp.{unsigned_tied}
 use Rattle.std.proofs.lemmas.List.Sums.{sum_by-cons}
 use Rattle.std.proofs.lemmas.Nat.{mod-pow-add, mod_low, pow_pos}
 use Rattle.std.proofs.lemmas.Bool.{cases_Bool, eq-eqb, ne_eqb, and_left, and_right}
-use Rattle.circuit.specs.Circuit.{Circuit, parts, net, on, Sound, bit, mask, count, in_cell, cells as cell-count}
+use Rattle.circuit.specs.Circuit.{Circuit, parts, net, on, Sound, bit, mask, count, in_cell, cells as cell_count}
 use Rattle.circuit.proofs.Counting.{count_same}
 use Rattle.circuit.proofs.Masks.{mask_bit, mask_below, net_ascends, net_below}
 use Rattle.circuit.proofs.Rule.{cell_tells}
@@ -137,7 +137,7 @@ module _ (c : Circuit) (s : List ℕ) where
             let y : fresh c s (length s) v ≡ true = eq-eqb (mask c s v % 2 ^ length s) 0 (whole v ∙ d ∙ z) in
             and_left (not (fresh c s (length s) v)) (in_cell c s cls msk v) (ap not y)
 
-    pub times_cells : Sound c → 0 < msk → times by_cell (keys c s (length s)) (record { class = cls; mask = msk }) ≡ cell-count c s cls msk
+    pub times_cells : Sound c → 0 < msk → times by_cell (keys c s (length s)) (record { class = cls; mask = msk }) ≡ cell_count c s cls msk
     times_cells sound pos = times_keys sound (length s) (omega arith) ∙ count_same (low (length s)) (in_cell c s cls msk) (parts c) (λ v _. all_of v pos)
 
     pub times_zero : Sound c → msk ≡ 0 → times by_cell (keys c s (length s)) (record { class = cls; mask = msk }) ≡ 0

@@ -1,6 +1,6 @@
 -- Every pattern is whole.
 use Rattle.std.proofs.Common.{◌≡◌, ℕ, suc, ◌+◌, ◌-◌, ◌<◌, ◌≤◌, List, [], ◌∷◌, length, get_or, take, sym, ap, ◌∙◌, subst, ⊎_elim, arith}
-use Rattle.std.specs.List.{AllByRecursion as All}
+use Rattle.std.specs.List.{AllByRecursion}
 use Rattle.std.proofs.lemmas.Bool.{cases_lt}
 use Rattle.std.proofs.ByRecursion.{All-from_get_or}
 use Rattle.circuit.specs.Circuit.{In, parts, N}
@@ -51,7 +51,7 @@ module _ (p : Pattern) where
       let q : start es f + d ≡ k = omega arith in
       (f, omega (arith, cuts_length 0 es js), member_shows (get_or (cuts 0 es js) f []) v d inside (r ∙ ap (λ (i : ℕ). get_or js i 0) q ∙ e))
 
-  no_empty : All (λ xs. 1 ≤ length xs) (drawn p).nets
+  no_empty : AllByRecursion (λ xs. 1 ≤ length xs) (drawn p).nets
   no_empty = All-from_get_or (λ xs. 1 ≤ length xs) (drawn p).nets [] λ f h.
       let there : f < length (ends_of p) = omega (arith, cuts_length 0 (ends_of p) (joins_of p)) in
       omega (arith, size f there, p.spans f there)

@@ -1,6 +1,6 @@
 -- The tables that make a pattern, and what every pattern is.
 use Rattle.std.specs.Prelude.{◌≡◌, ℕ, ◌<◌, ◌≤◌, true, List, length}
-use Rattle.std.specs.List.{AllByRecursion as All}
+use Rattle.std.specs.List.{AllByRecursion}
 use Rattle.circuit.specs.Circuit.{Circuit, Sound, In, parts, N, member}
 use Rattle.tables.specs.Tables.{Spans, Closes, Climbs, Below}
 
@@ -27,5 +27,5 @@ pub record Whole (c : Circuit) : Type 0 where
   pub some_parts : 1 ≤ parts c
   pub few_parts : parts c ≤ 64
   pub sound : Sound c
-  pub no_empty : All (λ xs. 1 ≤ length xs) c.nets
+  pub no_empty : AllByRecursion (λ xs. 1 ≤ length xs) c.nets
   pub covered : (v : ℕ) → v < parts c → In c (N c) v

@@ -1,6 +1,6 @@
 -- The ends of the nets, and the pieces of the joins that they cut.
 use Rattle.std.proofs.Common.{◌≡◌, ℕ, zero, suc, ◌+◌, ◌-◌, ◌<◌, ◌≤◌, Bool, true, false, cond, ltb, leb, ◌⊎◌, List, [], ◌∷◌, ◌++◌, map, length, get_or, take, drop, sym, refl, ap, ◌∙◌, inl, inr, append_assoc, append-nil, arith}
-use Rattle.std.specs.List.{AllByRecursion as All}
+use Rattle.std.specs.List.{AllByRecursion}
 use Rattle.std.proofs.lemmas.List.{at_drop_more, at_drop_all, take-map, drop-map, length-map, length-append, get_or_push}
 use Rattle.std.proofs.lemmas.List.FromFn.{get_or-map-range_with_len}
 use Rattle.std.proofs.ByRecursion.{All-weaker}
@@ -67,19 +67,19 @@ front_under f (r ∷ rs) =
     ap (λ b. cond b (suc (front f rs)) 0) (same_test r.net f)
     ∙ ap (λ n. cond (ltb r.net (suc f)) (suc n) 0) (front_under f rs)
 
-under_none : (f : ℕ) (rows : List Join) → All (λ q. f ≤ q.net) rows → under f rows ≡ 0
+under_none : (f : ℕ) (rows : List Join) → AllByRecursion (λ q. f ≤ q.net) rows → under f rows ≡ 0
 under_none f [] h = refl
 under_none f (r ∷ rs) h = ap (λ b. cond b (suc (under f rs)) 0) (le-ltb r.net f h.0)
 
-under_all : (f : ℕ) (rows : List Join) → All (λ q. q.net < f) rows → under f rows ≡ length rows
+under_all : (f : ℕ) (rows : List Join) → AllByRecursion (λ q. q.net < f) rows → under f rows ≡ length rows
 under_all f [] h = refl
 under_all f (r ∷ rs) h = ap (λ b. cond b (suc (under f rs)) 0) (lt-ltb r.net f h.0) ∙ ap suc (under_all f rs h.1)
 
-all_zero : (rows : List Join) → All (λ q. 0 ≤ q.net) rows
+all_zero : (rows : List Join) → AllByRecursion (λ q. 0 ≤ q.net) rows
 all_zero [] = tt
 all_zero (r ∷ rs) = (omega arith, all_zero rs)
 
-kept_none : (f : ℕ) (rows : List Join) → All (λ q. f < q.net) rows → rows_in f rows ≡ []
+kept_none : (f : ℕ) (rows : List Join) → AllByRecursion (λ q. f < q.net) rows → rows_in f rows ≡ []
 kept_none f [] h = refl
 kept_none f (r ∷ rs) h =
     let over : f < r.net = h.0 in
@@ -139,7 +139,7 @@ last_cons r s rs =
     let k : suc (suc (length rs)) - 1 ≡ suc (suc (length rs) - 1) = omega arith in
     ap (λ n. (get_or (r ∷ s ∷ rs) n (record { net = 0; part = 0 })).net) k
 
-most : (r : Join) (rs : List Join) → Rising (r ∷ rs) → All (λ q. q.net ≤ last_net (r ∷ rs)) (r ∷ rs)
+most : (r : Join) (rs : List Join) → Rising (r ∷ rs) → AllByRecursion (λ q. q.net ≤ last_net (r ∷ rs)) (r ∷ rs)
 most r [] h = (omega arith, tt)
 most r (s ∷ rs) h =
     let rest = most s rs h.1 in
@@ -171,7 +171,7 @@ nets_whole rows h = (rises rows, closes rows h)
 last_push : (before : List Join) (r : Join) → last_net (before ++ r ∷ []) ≡ r.net
 last_push before r = ap (λ (q : Join). q.net) (get_or_push before r (record { net = 0; part = 0 }) (length (before ++ r ∷ []) - 1) (omega (arith, length-append before (r ∷ []))))
 
-above : (before rows : List Join) (m : ℕ) → m ≤ last_net before → Holdable before rows → All (λ q. m ≤ q.net) rows
+above : (before rows : List Join) (m : ℕ) → m ≤ last_net before → Holdable before rows → AllByRecursion (λ q. m ≤ q.net) rows
 above before [] m k h = tt
 above before (r ∷ rs) m k h =
     let low : last_net before ≤ r.net = h.0 in

@@ -1,6 +1,6 @@
 -- The tables that a joins sheet's rows give: an end for each net, and the joins.
 use Rattle.std.specs.Prelude.{◌≡◌, ℕ, suc, ◌+◌, ◌-◌, ◌<◌, ◌≤◌, cond, List, [], ◌∷◌, map, length, take, drop, Ok, Err, vec_items, filter, Result, nat_eq, nat_le, slice_index}
-use Rattle.std.specs.List.{range_with_len, AllByRecursion as All}
+use Rattle.std.specs.List.{range_with_len, AllByRecursion}
 use Rattle.sheets.specs.declared.entry.Join.{Join}
 use Rattle.sheets.specs.declared.fault.Fault.{Fault}
 use Rattle.sheets.specs.declared.fault.File.{File}
@@ -45,7 +45,7 @@ NetsLoaded (Err Memory) x = Unit {0}
 -- no row's net is below that of a row before it
 abbrev pub Rising : List Join → Type 0
 Rising [] = Unit {0}
-Rising (r ∷ rs) = All (λ q. r.net ≤ q.net) rs × Rising rs
+Rising (r ∷ rs) = AllByRecursion (λ q. r.net ≤ q.net) rs × Rising rs
 
 -- net f's piece of the joins: from the end of the net before, 0 for the first, up to its own end
 abbrev pub piece : List ℕ → List ℕ → ℕ → List ℕ

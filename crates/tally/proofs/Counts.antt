@@ -1,6 +1,6 @@
 -- Counts after any number of keys; room for each.
 use Rattle.std.proofs.Common.{◌≡◌, ℕ, suc, ◌+◌, ◌<◌, ◌≤◌, false, cond, eqb, leb, ◌⊎◌, List, [], ◌∷◌, ◌++◌, length, get_or, is_ok, Ok, Err, Result, Ordering, Less, Equal, Greater, sym, refl, ap, ◌∙◌, subst, inl, inr, ⊎_elim, arith}
-use Rattle.std.specs.List.{AllByRecursion as All}
+use Rattle.std.specs.List.{AllByRecursion}
 use Rattle.std.proofs.ByRecursion.{All-weaker}
 use Rattle.std.proofs.lemmas.Bool.{ne_eqb, lt-leb}
 use Rattle.std.specs.Ordering.{ordering_reverse}
@@ -103,7 +103,7 @@ module _ {K : Type 0} (c : K → K → Ordering) where
       go Greater i = omega arith
 
   abbrev Low : ℕ → List (Entry K) → Type 0
-  Low n es = All (λ (e : Entry K). e.count ≤ n) es
+  Low n es = AllByRecursion (λ (e : Entry K). e.count ≤ n) es
 
   low_more : (n : ℕ) (es : List (Entry K)) → Low n es → Low (n + 1) es
   low_more n es h = All-weaker (λ (e : Entry K). e.count ≤ n) (λ (e : Entry K). e.count ≤ n + 1) (λ e l. omega arith) es h
