@@ -1,12 +1,12 @@
 #!/usr/bin/env python3
-"""Tries the planted bugs under planted/CRATE/*.edit, one at a time, on a copy of the repository.
+"""Tries the planted bugs under planted/CRATE/*.edit on a copy of the repository.
 
     tools/plant.py [CRATE ..] [--write]
 
-An edit has the form of those under crates/*/must-fail: the lines `file:`, `old:` and `new:`. Each is to be refused
-by the prover; what is still proved is printed as PROVED, and the exit status is then 1. With --write, and all crates,
-the results become the table at the end of docs/PLANTED.md. The gate does not run this: it tries the must-fail edits
-alone.
+An edit has the form of those under crates/*/must-fail: the lines `file:`, `old:` and `new:`. In the copy the planted
+edits stand in the place of the must-fail ones, and `rt must-fail` tries them. Each is to be refused by the prover; one
+that is not is printed with what `rt` says of it, and the exit status is then 1. With --write, and all crates, the
+results become the table at the end of docs/PLANTED.md. The gate does not run this: it tries the must-fail edits alone.
 """
 import argparse
 import pathlib
@@ -26,29 +26,24 @@ def read_edit(path):
     return fields["file"], fields["old"], fields["new"]
 
 
-def first_error(log):
-    """The file with the first thing that the prover did not accept."""
-    for line in log.splitlines():
-        found = re.search(r"crates/\w+/((?:src|proofs)/\S+?):\d+:\d+: ", line)
-        if found and "large solution" not in line:
-            return found.group(1)
-    return ""
+def copied(scratch, crates):
+    """A copy of the repository in which the planted edits of these crates are its only must-fail edits."""
+    copy = pathlib.Path(scratch) / "copy"
+    shutil.copytree(TOP, copy, ignore=shutil.ignore_patterns(".git", "out", "must-fail"))
+    for crate in crates:
+        shutil.copytree(TOP / "planted" / crate, copy / "crates" / crate / "must-fail")
+    return copy
 
 
-def attempt(copy, crate, path):
-    name, old, new = read_edit(path)
-    source = copy / "crates" / crate / name
-    text = source.read_text()
-    if text.count(old) != 1:
-        return "BAD EDIT", name, ""
-    source.write_text(text.replace(old, new))
-    try:
-        log = subprocess.run(["rt", "dev", crate], cwd=copy, capture_output=True, text=True)
-    finally:
-        source.write_text(text)
-    if log.returncode == 0:
-        return "PROVED", name, ""
-    return "refused", name, first_error(log.stdout + log.stderr)
+def answers(copy, crates):
+    """What `rt must-fail` says of each edit, by crate and file."""
+    log = subprocess.run(["rt", "must-fail", *crates], cwd=copy, capture_output=True, text=True)
+    said = {}
+    for line in (log.stdout + log.stderr).splitlines():
+        found = re.match(r"rt: must-fail (\w+)/(\w+)\.edit: (.*)", line)
+        if found:
+            said[found.group(1), found.group(2)] = found.group(3)
+    return said
 
 
 def write_table(rows):
@@ -63,20 +58,20 @@ def main():
     parser.add_argument("crates", nargs="*")
     parser.add_argument("--write", action="store_true")
     args = parser.parse_args()
-    folder = TOP / "planted"
-    crates = args.crates or sorted(p.name for p in folder.iterdir() if p.is_dir())
-    rows, bad = [], 0
+    planted = TOP / "planted"
+    crates = args.crates or sorted(p.name for p in planted.iterdir() if p.is_dir())
     with tempfile.TemporaryDirectory() as scratch:
-        copy = pathlib.Path(scratch) / "copy"
-        shutil.copytree(TOP, copy, ignore=shutil.ignore_patterns(".git", "planted"))
-        for crate in crates:
-            subprocess.run(["rt", "dev", crate], cwd=copy, capture_output=True)
-            for path in sorted((folder / crate).glob("*.edit")):
-                result, name, place = attempt(copy, crate, path)
-                bad += result != "refused"
-                print(f"{crate}/{path.stem}: {result}" + (f", first at {place}" if place else ""), flush=True)
-                _, old, new = read_edit(path)
-                rows.append((crate, name, old.strip(), new.strip(), result, place))
+        said = answers(copied(scratch, crates), crates)
+    rows, bad = [], 0
+    for crate in crates:
+        for path in sorted((planted / crate).glob("*.edit")):
+            answer = said.get((crate, path.stem), "no answer")
+            refused = answer.startswith("refused")
+            found = re.search(r"((?:src|proofs)/\S+?):\d+:\d+: ", answer)
+            bad += not refused
+            print(f"{crate}/{path.stem}: {answer}")
+            name, old, new = read_edit(path)
+            rows.append((crate, name, old.strip(), new.strip(), "refused" if refused else answer, found.group(1) if found else ""))
     if args.write:
         write_table(rows)
     print(f"{len(rows)} planted, {len(rows) - bad} refused")

@@ -31,7 +31,7 @@ module _ {S : Type 0} (w : S → List ℕ → S → Type 0) where
   last_known (Err y) line bytes l a b o e h = tt
 
   module _ (p b : Circuit) (keeps : List ℕ → Bool) where
-    -- so far: a run stands at k, and its hand_over was written
+    -- so far: a run stands at k, and its hand-over was written
     abbrev pub SoFar : S → Mark → S → Type 0
     SoFar a k o = (h : List (List ℕ)) × (t : ℕ) × Run (rules_of p b keeps) k h t × Writes w a (map hit_line h) o
 

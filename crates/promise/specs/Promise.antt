@@ -32,7 +32,7 @@ pub data Run (R : Rules) : Mark → List (List ℕ) → ℕ → Type 0 where
   call : {k : Mark} {h : List (List ℕ)} {t : ℕ} (b : ℕ) (row : List ℕ) (a : Answer) (k' : Mark) (row' : List ℕ)
       → Run R k h t → Next R k b row a k' row' → Run R k' (h ++ handed R a row') (t + tries a)
 
--- the hand_over h is right at the bookmark k: every hit before it, each once, ascending
+-- the hand-over h is right at the bookmark k: every hit before it, each once, ascending
 pub record Right (Hit : List ℕ → Type 0) (k : Mark) (h : List (List ℕ)) : Type 0 where
   pub ascends : Ascends h
   pub only : (t : List ℕ) → In t h → Hit t × Before t k
@@ -69,7 +69,7 @@ pub record Same (a a' : Answer) (k k' : Mark) (row row' : List ℕ) : Type 0 whe
   pub written : row ≡ row'
 
 pub record Promise (R : Rules) (Hit : List ℕ → Type 0) : Type 0 where
-  -- no succession of calls leads to a wrong hand_over
+  -- no succession of calls leads to a wrong hand-over
   pub right : (k : Mark) (h : List (List ℕ)) (t : ℕ) → Run R k h t → Right Hit k h
   -- in any succession, a refusal is 31 or 32
   pub refuses : (k : Mark) (h : List (List ℕ)) (t : ℕ) → Run R k h t

@@ -32,7 +32,7 @@ pub record ByLabels {L : Type 0} (same : L → L → Bool) (ps bs : List L) (p b
   pub any : Promise (rules_of p b keeps) (AlikeHit (alike_at same ps bs) p b)
   pub right : Right (AlikeHit (alike_at same ps bs) p b) k (hand_over (rules_of p b keeps) cs')
 
--- The whole promise of the calls cs, left as cs' with the bookmark at k: their hand_over is every hit before the bookmark, each once and ascending;
+-- The whole promise of the calls cs, left as cs' with the bookmark at k: their hand-over is every hit before the bookmark, each once and ascending;
 -- and what is promised of any succession of calls whatever.
 pub record Whole {L : Type 0} (proper : L → Bool) (same : L → L → Bool) (ps bs : List L) (p b : Circuit) (keeps : List ℕ → Bool) (cs cs' : List Call) (k : Mark) : Type 0 where
   pub through : Through (rules_of p b keeps) (opening (rules_of p b keeps)) cs cs' k
