@@ -71,7 +71,8 @@ def main():
             bad += not refused
             print(f"{crate}/{path.stem}: {answer}")
             name, old, new = read_edit(path)
-            rows.append((crate, name, old.strip(), new.strip(), "refused" if refused else answer, found.group(1) if found else ""))
+            result = answer.split(":")[0] if not refused else "refused, for a name" if "only because a proof file names" in answer else "refused"
+            rows.append((crate, name, old.strip(), new.strip(), result, found.group(1) if found else ""))
     if args.write:
         write_table(rows)
     print(f"{len(rows)} planted, {len(rows) - bad} refused")
