@@ -46,7 +46,7 @@ def declared(path):
     for line in path.read_text().splitlines():
         if line.lstrip().startswith("--"):
             continue
-        found = re.match(r"(\s*)(?:unfoldable |abbrev )*(pub )?(?:data |record |ruleset )?(?:pub )?(" + TOKEN + r")(?:\s+[({].*)?\s*:\s", line)
+        found = re.match(r"(\s*)(?:unfoldable |abbrev )*(pub )?(?:data |record |ruleset )?(?:pub )?(" + TOKEN + r")(?:\s+[({].*)?\s*:(?:\s|$)", line)
         if not found or found.group(3) in ("let", "use", "mod", "pub"):
             continue
         name = found.group(3)
@@ -80,8 +80,8 @@ def main():
 
     for path in proofs + sorted(TOP.glob("crates/*/src/**/*.rt")):
         lines = path.read_text().splitlines(keepends=True)
-        # a string keeps its words; a name behind a dot is turned where it is a field of a record
-        new = ["".join(part if part.startswith('"') else re.sub(r"(\.?)(" + TOKEN + r")", turn, part) for part in re.split(r'("[^"]*")', line)) for line in lines]
+        # strings and comments keep their words; a name behind a dot is turned where it is a field of a record
+        new = ["".join(part if re.match(r'"|--|//', part) else re.sub(r"(\.?)(" + TOKEN + r")", turn, part) for part in re.split(r'("[^"]*"|(?<!\S)--.*|//.*)', line)) for line in lines]
         if new != lines:
             path.write_text("".join(new))
     print(len(turned), "names turned")

@@ -6,7 +6,7 @@ use Rattle.std.proofs.lemmas.Bool.Decides.{Decides-eqb, Decides-ltb, Decides-and
 use Rattle.std.proofs.ByRecursion.{Decides-by_and}
 use Rattle.circuit.specs.Circuit.{Circuit, parts, N, class, member, Sound, AllBelow, Distinct, Hit, mask, upto, in_cell, cells, CellRule, every, level, meets_cell_rule, are_below, are_distinct, is_hit}
 use Rattle.circuit.proofs.Counting.{none_or_one}
-use Rattle.circuit.proofs.Rule.{cell_tells, cell-rule}
+use Rattle.circuit.proofs.Rule.{cell_tells, cell_rule}
 
 pub decides_every : (test : ℕ → Bool) (P : ℕ → Type 0) → ((k : ℕ) → Decides (test k) (P k)) → (n : ℕ) → Decides (every test n) ((k : ℕ) → k < n → P k)
 decides_every test P each n = Decides-below_and test P (every test) each refl (λ _. refl) n
@@ -81,7 +81,7 @@ distinct_decided (x ∷ xs) = Decides-and (not (member xs x)) (are_distinct xs) 
 
 pub hit_decided : (p b : Circuit) → Sound p → Sound b → (t : List ℕ) → Decides (is_hit p b t) (Hit p b t)
 hit_decided p b sp sb t =
-    let rule = cell-rule p b sp sb (N p) t in
+    let rule = cell_rule p b sp sb (N p) t in
     let d = meets_cell_rule p (N p) b t in
     Decides-like (is_hit p b t)
     (λ (e, (a, (d, r))). (rule e a d).1 r)

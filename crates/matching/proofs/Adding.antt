@@ -58,10 +58,10 @@ module _ (c : Circuit) (s : List ℕ) where
     more : picked c s i (take (k + 1) (net c (get_or s i 0))) ≡ picked c s i (take k (net c (get_or s i 0))) ++ cond (fresh c s i (get_or (net c (get_or s i 0)) k 0)) (cell_of c s (get_or (net c (get_or s i 0)) k 0) ∷ []) []
     more = ap (picked c s i) (take_more (net c (get_or s i 0)) k 0 h) ∙ picked_append i (take k (net c (get_or s i 0))) (get_or (net c (get_or s i 0)) k 0 ∷ [])
 
-    pub far-more :
+    pub far_more :
         fresh c s i (get_or (net c (get_or s i 0)) k 0) ≡ true →
         so_far i (k + 1) ≡ so_far i k ++ cell_of c s (get_or (net c (get_or s i 0)) k 0) ∷ []
-    far-more t =
+    far_more t =
         ap (λ (zs : List Cell). keys c s i ++ zs) (more ∙ ap (λ (b : Bool). picked c s i (take k (net c (get_or s i 0))) ++ cond b (cell_of c s (get_or (net c (get_or s i 0)) k 0) ∷ []) []) t)
         ∙ sym (append_assoc (keys c s i) (picked c s i (take k (net c (get_or s i 0)))) (cell_of c s (get_or (net c (get_or s i 0)) k 0) ∷ []))
 
@@ -72,10 +72,10 @@ module _ (c : Circuit) (s : List ℕ) where
         ∙ ap (λ (b : Bool). picked c s i (take k (net c (get_or s i 0))) ++ cond b (cell_of c s (get_or (net c (get_or s i 0)) k 0) ∷ []) []) t
         ∙ append-nil (picked c s i (take k (net c (get_or s i 0)))))
 
-    pub far-room :
+    pub far_room :
         (room : ℕ) (es : List (Entry Cell)) (cell : Cell) → es ≡ tallied by_cell (so_far i k) →
         sizes c s (suc i) ≤ room → sizes c s (suc i) < 65535 → answer by_cell es cell room ≡ Ok tt
-    far-room room es cell e fits low =
+    far_room room es cell e fits low =
         let a = keys_few i in
         let b = picked_few i (take k (net c (get_or s i 0))) in
         let d = length-take-le k (net c (get_or s i 0)) (omega arith) in

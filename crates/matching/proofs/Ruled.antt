@@ -4,7 +4,7 @@ use Rattle.std.proofs.lemmas.List.{map-id}
 use Rattle.std.proofs.lemmas.List.FromFn.{take-map-range_with_len}
 use Rattle.std.proofs.lemmas.Bool.Decides.{Decides-like, same_from_decides}
 use Rattle.circuit.specs.Circuit.{Circuit, parts, net, on, Sound, Maps, same_class, upto, count, CellRule, meets_cell_rule, place}
-use Rattle.circuit.proofs.Counting.{count-tied}
+use Rattle.circuit.proofs.Counting.{count_tied}
 use Rattle.circuit.proofs.Masks.{get_or_upto, on_below}
 use Rattle.circuit.proofs.Rule.{place_maps}
 use Rattle.circuit.proofs.Decided.{cell_rule_decided}
@@ -42,12 +42,12 @@ module _ (p b : Circuit) (sp : Sound p) (sb : Sound b) (k : ℕ) (s : List ℕ) 
   pub rule_sizes : CellRule p k b s → SameSizes p b s k
   rule_sizes rule i l =
       let x : count (λ u. on p u i) (parts p) ≤ count (λ v. on b v g) (parts b) =
-      count-tied (λ u. on p u i) (λ v. on b v g) (λ u v. f u ≡ v) (parts p) (parts b)
+      count_tied (λ u. on p u i) (λ v. on b v g) (λ u v. f u ≡ v) (parts p) (parts b)
       (λ u _ o. (f u, m.lands u (i, l, o), m.into i l u o, refl))
       (λ u u' v _ _ o o' e e'. m.apart u u' (i, l, o) (i, l, o') (e ∙ sym e'))
       in
       let y : count (λ v. on b v g) (parts b) ≤ count (λ u. on p u i) (parts p) =
-      count-tied (λ v. on b v g) (λ u. on p u i) (λ v u. f u ≡ v) (parts b) (parts p)
+      count_tied (λ v. on b v g) (λ u. on p u i) (λ v u. f u ≡ v) (parts b) (parts p)
       (λ v _ o. let (u, o', e) = m.onto i l v o in (u, on_below p sp u i o', o', e))
       (λ v v' u _ _ _ _ e e'. sym e ∙ e')
       in

@@ -18,9 +18,9 @@ module _ (p b : Circuit) (t : List ℕ) (room bytes : ℕ) (long : length t ≡ 
   pub verdict_net : past (N b) t < length t → refuse TupleNet (past (N b) t) ≡ verdict p b t room bytes
   verdict_net h = sym (cond-true _ _ _ (eq-eqb (length t) (N p) long) ∙ cond-true _ _ _ (lt-ltb (past (N b) t) (length t) h))
 
-  pub verdict-hit :
+  pub verdict_hit :
       length t ≤ past (N b) t → parts p ≤ room → parts b ≤ bytes → (are_distinct t && meets_cell_rule p (N p) b t) ≡ true → Ok Map ≡ verdict p b t room bytes
-  verdict-hit h k l q =
+  verdict_hit h k l q =
       sym (
       cond-true _ _ _ (eq-eqb (length t) (N p) long)
       ∙ cond-false _ _ _ (le-ltb (past (N b) t) (length t) h)

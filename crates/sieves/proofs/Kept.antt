@@ -6,7 +6,7 @@ use Rattle.std.proofs.lemmas.Bool.Decides.{Decides-eqb, Decides-and, Decides-lik
 use Rattle.circuit.specs.Circuit.{Circuit, N, parts, class, on, Sound, Hit, count, every}
 use Rattle.circuit.proofs.Counting.{none_or_one}
 use Rattle.circuit.proofs.Decided.{decides_every}
-use Rattle.circuit.proofs.Nets.{counts-kept}
+use Rattle.circuit.proofs.Nets.{counts_kept}
 use Rattle.promise.specs.Hits.{Fit}
 use Rattle.sieves.specs.Counts.{classed, SameCounts, level_class, have_same_counts, place, last, looked_up, counts_keep}
 
@@ -52,7 +52,7 @@ Filled p b fits = (i f : ℕ) → i < 16 → f < 4096 → get_or fits (i * 4096 
 begins : (p b : Circuit) → Sound p → Sound b → (s rest : List ℕ) → 1 ≤ length s → Hit p b (s ++ rest) → SameCounts p (place s) b (last s)
 begins p b sp sb s rest some h cls =
     let l : place s < N p = omega (arith, h.long, length-append s rest) in
-    counts-kept p b sp sb (N p) (s ++ rest) h.part_map h.maps (place s) l cls
+    counts_kept p b sp sb (N p) (s ++ rest) h.part_map h.maps (place s) l cls
     ∙ ap (λ (g : ℕ). count (classed b g cls) (parts b)) (get_or_append_left s rest 0 (place s) (omega arith))
 
 pub counts_fit : (p b : Circuit) → Sound p → Sound b → Fit (counts_keep p b) p b

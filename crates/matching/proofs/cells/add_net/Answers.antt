@@ -5,7 +5,7 @@ use Rattle.matching.specs.declared.cell.Cell.{Cell}
 use Rattle.tally.specs.Tallies.{tallied}
 use Rattle.tally.proofs.Counts.{put_more}
 use Rattle.matching.specs.Orders.{by_cell, cells}
-use Rattle.matching.proofs.Adding.{so_far, far-room, far-more, far_same, far_all, fresh_yes, fresh_no, cell_is}
+use Rattle.matching.proofs.Adding.{so_far, far_room, far_more, far_same, far_all, fresh_yes, fresh_no, cell_is}
 use Rattle.matching.proofs.cells.add_net.Goals as goal
 use Rattle.matching.proofs.cells.add_net.Goals.{then-mask-earlier-eq0, else-mask-earlier-eq0}
 
@@ -30,14 +30,14 @@ loop-k-preserved g c =
           let cell : Cell = record { class = w.class_of-class.result; mask = c.mask_of-mask.result } in
           let es = take c.loop-k.tally.len c.loop-k.tally.entries.now in
           let room = length c.loop-k.tally.entries.now in
-          let fits = far-room m s i k h room es cell inv.3 (omega (arith, c.requires.room, inv.2)) c.requires.low in
+          let fits = far_room m s i k h room es cell inv.3 (omega (arith, c.requires.room, inv.2)) c.requires.low in
           subst T (sym w.tally-is) (
             p.within inv.0,
             p.lender ∙ inv.1,
             p.room ∙ inv.2,
             put_more by_cell (so_far m s i k) cell es _ room inv.3 fits (p.after cells)
                 ∙ ap (λ (z : Cell). tallied by_cell (so_far m s i k ++ z ∷ [])) (cell_is m s i _ _ _ c.mask_of-mask.ensures c.part_of-v.ensures _ w.class_of-class.ensures)
-                ∙ ap (tallied by_cell) (sym (far-more m s i k h (fresh_yes m s i _ _ _ c.mask_of-mask.ensures c.part_of-v.ensures l w.if-mask-earlier-eq0.true))),
+                ∙ ap (tallied by_cell) (sym (far_more m s i k h (fresh_yes m s i _ _ _ c.mask_of-mask.ensures c.part_of-v.ensures l w.if-mask-earlier-eq0.true))),
           )
       | else-mask-earlier-eq0 w ↦
           subst T (sym w.tally-is) (

@@ -5,7 +5,7 @@ use Rattle.circuit.specs.Circuit.{N, are_distinct, meets_cell_rule}
 use Rattle.pattern.specs.Drawn.{drawn}
 use Rattle.circuit.specs.declared.refusal.Reason.TheVariants.{TupleNet}
 use Rattle.matching.specs.Mapped.{past, refuse}
-use Rattle.matching.proofs.Verdicts.{verdict_net, verdict-hit}
+use Rattle.matching.proofs.Verdicts.{verdict_net, verdict_hit}
 use Rattle.matching.proofs.mapping.map.Goals as goal
 
 pub returns-then-i-tuple : goal.returns-then-i-tuple
@@ -44,7 +44,7 @@ returns g c =
     let q : length c.over-guard.result.bytes.now ≡ length c.args.taken.now = ap length a ∙ length-replicate (length c.args.taken.now) 0 in
     let e : c.first_past-i.result ≡ past (N b) t = c.first_past-i.ensures ∙ ap (λ (n : ℕ). past n t) c.nets-2.ensures in
     record {
-      answer = verdict-hit p b t (length c.args.out.now) (length c.args.taken.now) (c.if-tuple-nets.false ∙ c.nets.ensures)
+      answer = verdict_hit p b t (length c.args.out.now) (length c.args.taken.now) (c.if-tuple-nets.false ∙ c.nets.ensures)
           (omega (arith, e, c.if-i-tuple.false)) (omega (arith, c.parts.ensures, c.if-out-parts.false)) (omega (arith, q, c.parts-2.ensures, c.len.ensures, c.if-len-parts.false))
           (sym c.if-not-fits.ensures);
       out = c.place_all.ensures.out;

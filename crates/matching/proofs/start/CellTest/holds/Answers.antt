@@ -2,7 +2,7 @@ use Rattle.std.proofs.Common.{◌<◌, ◌≤◌, Bool, ◌&&◌, length, sym, r
 use Rattle.std.proofs.lemmas.Bool.{le-leb, lt-leb}
 use Rattle.std.proofs.lemmas.Bool.Decides.{Decides-like, Decides-at}
 use Rattle.circuit.specs.Circuit.{N, meets_cell_rule}
-use Rattle.circuit.proofs.Rule.{cell-rule}
+use Rattle.circuit.proofs.Rule.{cell_rule}
 use Rattle.circuit.proofs.Decided.{cell_rule_decided}
 use Rattle.pattern.specs.Drawn.{drawn}
 use Rattle.pattern.specs.Kept.{drawn_sound, parts_few}
@@ -37,7 +37,7 @@ returns g c =
     record {
       rule = c.cells_agree.ensures ∙ sym (ap (λ (t : Bool). t && meets_cell_rule p (length s) b s) (le-leb (length s) (N p) fits));
       hit = λ short below distinct.
-          let w = cell-rule p b (drawn_sound c.args.p.now) (g.B.Board.sound c.args.b.now) (length s) s refl below distinct in
+          let w = cell_rule p b (drawn_sound c.args.p.now) (g.B.Board.sound c.args.b.now) (length s) s refl below distinct in
           Decides-at c.cells_agree.result (meets_cell_rule p (length s) b s) c.cells_agree.ensures
           (Decides-like (meets_cell_rule p (length s) b s) w.1 w.0 (cell_rule_decided p (length s) b s));
     }
