@@ -37,20 +37,14 @@ pub trait Board {
 pub fn class_of<B: Board>(board: &B, v: u16) -> u16
     ensures { result ≡ class (B.Board.means board.now) v }
 {
-    match board.class(v) {
-        Some(class) => class,
-        None => 0,
-    }
+    board.class(v).unwrap_or(0)
 }
 
 // The k-th part of a net, 0 where there is none.
 pub fn part_of<B: Board>(board: &B, f: u16, k: u16) -> u16
     ensures { result ≡ slice_index (net (B.Board.means board.now) f) k }
 {
-    match board.part(f, k) {
-        Some(part) => part,
-        None => 0,
-    }
+    board.part(f, k).unwrap_or(0)
 }
 
 // A lent board is a board, so that layers can stand over one that the caller keeps.

@@ -6,8 +6,6 @@ ghost use Rattle.circuit.specs.Circuit.{Circuit, Sound};
 ghost use Rattle.std.specs.Prelude.{ℕ, ◌≤◌, Bool, List, length};
 
 // The promise, for every pattern, board and fit sieve.
-pub fn promise_stands() -> u8
+pub fn promise_stands()
     ensures { (p b : Circuit) → Sound p → Sound b → 1 ≤ length p.nets → (keeps : List ℕ → Bool) → Fit keeps p b → Promised p b keeps }
-{
-    0
-}
+{}
