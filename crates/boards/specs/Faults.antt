@@ -4,9 +4,8 @@ use Rattle.circuit.specs.declared.refusal.Reason.{Reason}
 use Rattle.circuit.specs.declared.refusal.Reason.TheVariants.{BoardLimit, BoardEnd, BoardPartOrder}
 use Rattle.circuit.specs.declared.refusal.Refusal.{Refusal}
 use Rattle.tables.specs.Tables.{Spans, Closes}
-use Rattle.tables.specs.Faults.{WrongEnd, Stray}
+use Rattle.tables.specs.Faults.{WrongEnd, Stray, refused}
 use Rattle.tables.specs.declared.faults.Misfit.{Misfit}
-use Rattle.tables.specs.declared.faults.Misfit.TheVariants.{End, Join}
 
 pub record Limits (classes ends joins : List ℕ) : Type 0 where
   pub few_parts : length classes ≤ 4096
@@ -22,5 +21,4 @@ pub data Refused (classes ends joins : List ℕ) : Reason → ℕ → Type 0 whe
 
 -- the refusal for a wrong end or join
 abbrev pub by_misfit : Misfit → Refusal
-by_misfit (End f) = record { reason = BoardEnd; place = f }
-by_misfit (Join k) = record { reason = BoardPartOrder; place = k }
+by_misfit = refused BoardEnd BoardPartOrder

@@ -29,7 +29,23 @@ impl<B: Board> Blanking<B> {
     fn is_blank(&self, f: u16) -> bool
         ensures { result ≡ slice_index_or self.now.marks f false }
     {
-        (f as usize) < 4096 && self.marks[f as usize]
+        self.marks.get(f as usize).copied().unwrap_or(false)
+    }
+
+    // Sets or clears the net's mark, if the net is on the board.
+    fn mark(&mut self, f: u16, blanked: bool) -> Result<(), Refusal>
+        ensures answer { result ≡ (if ltb f (length (B.Board.means self.old.board).nets) then Ok tt else Err (record { reason = NetOffBoard; place = f })) }
+        ensures board { self.new.board ≡ self.old.board }
+        ensures marks { self.new.marks ≡ (if is_ok result then slice_set self.old.marks f blanked else self.old.marks) }
+    {
+        if f >= self.board.nets() {
+            return Err(Refusal {
+                reason: Reason::NetOffBoard,
+                place: f as usize,
+            });
+        }
+        self.marks[f as usize] = blanked;
+        Ok(())
     }
 
     // Empties the net until it is shown again.
@@ -38,15 +54,7 @@ impl<B: Board> Blanking<B> {
         ensures board { self.new.board ≡ self.old.board }
         ensures marks { self.new.marks ≡ (if is_ok result then slice_set self.old.marks f true else self.old.marks) }
     {
-        if f < self.board.nets() {
-            self.marks[f as usize] = true;
-            Ok(())
-        } else {
-            Err(Refusal {
-                reason: Reason::NetOffBoard,
-                place: f as usize,
-            })
-        }
+        self.mark(f, true)
     }
 
     // Shows the net as the board below has it.
@@ -55,15 +63,7 @@ impl<B: Board> Blanking<B> {
         ensures board { self.new.board ≡ self.old.board }
         ensures marks { self.new.marks ≡ (if is_ok result then slice_set self.old.marks f false else self.old.marks) }
     {
-        if f < self.board.nets() {
-            self.marks[f as usize] = false;
-            Ok(())
-        } else {
-            Err(Refusal {
-                reason: Reason::NetOffBoard,
-                place: f as usize,
-            })
-        }
+        self.mark(f, false)
     }
 }
 

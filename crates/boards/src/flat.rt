@@ -1,126 +1,100 @@
 // A board held as three tables that someone else keeps.
 ghost use Rattle.std.specs.Prelude.{◌≡◌, ◌≤◌, [], length, if◌then◌else◌, MatchResult, nat_lt};
 ghost use Rattle.circuit.specs.Circuit.{net};
-ghost use Rattle.tables.specs.Tables.{circuit_of, start, Rises, Closes, Climbs, Below};
+ghost use Rattle.tables.specs.Tables.{start, Rises, Closes, Climbs, Below};
+ghost use Rattle.tables.specs.Drawn.{drawn_in};
 ghost use Rattle.tables.specs.Cuts.{sound};
 ghost use Rattle.boards.specs.Flat.{Good, flat_small};
-ghost use Rattle.boards.specs.Faults.{Refused, by_misfit};
+ghost use Rattle.boards.specs.Faults.{Refused};
 
 use circuit::{Board, Reason, Refusal};
-use tables::{Misfit, NetList, first_misfit, holds, net_list};
+use tables::{NetList, Tables};
 
 #[derive(Clone, Copy)]
 pub struct FlatBoard<'a> {
-    classes: &'a [u16],
-    ends: &'a [u16],
-    joins: &'a [u16],
-    ghost few_parts: { length classes.now ≤ 4096 },
-    ghost few_nets: { length ends.now ≤ 4096 },
-    ghost few_joins: { length joins.now ≤ 16384 },
-    ghost rises: { Rises ends.now },
-    ghost closes: { Closes ends.now joins.now },
-    ghost climbs: { Climbs ends.now joins.now },
-    ghost under: { Below joins.now (length classes.now) },
-}
-
-// The refusal for a wrong end or join.
-fn refusal_of(misfit: Misfit) -> Refusal
-    ensures { result ≡ by_misfit misfit }
-{
-    match misfit {
-        Misfit::End(net) => Refusal {
-            reason: Reason::BoardEnd,
-            place: net,
-        },
-        Misfit::Join(join) => Refusal {
-            reason: Reason::BoardPartOrder,
-            place: join,
-        },
-    }
+    tables: Tables<'a>,
+    ghost few_parts: { length tables.classes.now ≤ 4096 },
+    ghost few_nets: { length tables.ends.now ≤ 4096 },
+    ghost few_joins: { length tables.joins.now ≤ 16384 },
+    ghost rises: { Rises tables.ends.now },
+    ghost closes: { Closes tables.ends.now tables.joins.now },
+    ghost climbs: { Climbs tables.ends.now tables.joins.now },
+    ghost under: { Below tables.joins.now (length tables.classes.now) },
 }
 
 // Says what is wrong with tables that make no board.
-pub fn check(classes: &[u16], ends: &[u16], joins: &[u16]) -> Result<(), Refusal>
-    ensures { MatchResult result (λ _. Good classes.now ends.now joins.now) (λ e. Refused classes.now ends.now joins.now e.reason e.place) }
+pub fn check(tables: Tables<'_>) -> Result<(), Refusal>
+    ensures { MatchResult result
+        (λ _. Good tables.entry.classes.now tables.entry.ends.now tables.entry.joins.now)
+        (λ e. Refused tables.entry.classes.now tables.entry.ends.now tables.entry.joins.now e.reason e.place) }
 {
-    if classes.len() > 4096 || ends.len() > 4096 || joins.len() > 16384 {
+    if tables.classes.len() > 4096 || tables.ends.len() > 4096 || tables.joins.len() > 16384 {
         return Err(Refusal {
             reason: Reason::BoardLimit,
             place: 0,
         });
     }
-    match first_misfit(classes.len(), 0, ends, joins) {
-        Some(misfit) => Err(refusal_of(misfit)),
+    match tables.first_misfit(0) {
+        Some(misfit) => Err(misfit.refusal(Reason::BoardEnd, Reason::BoardPartOrder)),
         None => Ok(()),
     }
 }
 
 impl<'a> FlatBoard<'a> {
     // From tables that `check` refuses, the board without parts or nets.
-    pub fn make(classes: &'a [u16], ends: &'a [u16], joins: &'a [u16]) -> FlatBoard<'a>
-        ensures good { Good classes.now ends.now joins.now → (result.classes.now ≡ classes.now) × (result.ends.now ≡ ends.now) × (result.joins.now ≡ joins.now) }
-        ensures bad { (Good classes.now ends.now joins.now → ⊥) → (result.classes.now ≡ []) × (result.ends.now ≡ []) × (result.joins.now ≡ []) }
+    pub fn make(tables: Tables<'a>) -> FlatBoard<'a>
+        ensures good { Good tables.entry.classes.now tables.entry.ends.now tables.entry.joins.now → (result.tables.classes.now ≡ tables.entry.classes.now) × (result.tables.ends.now ≡ tables.entry.ends.now) × (result.tables.joins.now ≡ tables.entry.joins.now) }
+        ensures bad { (Good tables.entry.classes.now tables.entry.ends.now tables.entry.joins.now → ⊥) → (result.tables.classes.now ≡ []) × (result.tables.ends.now ≡ []) × (result.tables.joins.now ≡ []) }
     {
-        match check(classes, ends, joins) {
-            Ok(()) => FlatBoard {
-                classes,
-                ends,
-                joins,
-            },
+        match check(tables) {
+            Ok(()) => FlatBoard { tables },
             Err(_) => FlatBoard {
-                classes: &[],
-                ends: &[],
-                joins: &[],
+                tables: Tables {
+                    classes: &[],
+                    ends: &[],
+                    joins: &[],
+                },
             },
         }
     }
 
     // The net's list; off the board the empty one, at 0.
     pub fn net(&self, f: u16) -> NetList<'a>
-        ensures list { result.parts.now ≡ net (circuit_of self.now.classes.now self.now.ends.now self.now.joins.now) f }
-        ensures place { result.place ≡ (if nat_lt f (length self.now.ends.now) then start self.now.ends.now f else 0) }
+        ensures list { result.parts.now ≡ net (drawn_in self.now.tables) f }
+        ensures place { result.place ≡ (if nat_lt f (length self.now.tables.ends.now) then start self.now.tables.ends.now f else 0) }
     {
-        net_list(self.ends, self.joins, f)
+        self.tables.net(f)
     }
 }
 
 impl<'a> Board for FlatBoard<'a> {
-    ghost means = { λ s. circuit_of s.classes.now s.ends.now s.joins.now };
+    ghost means = { λ s. drawn_in s.tables };
 
-    ghost sound = { λ s. sound s.classes.now s.ends.now s.joins.now s.rises s.closes s.climbs s.under };
+    ghost sound = { λ s. sound s.tables.classes.now s.tables.ends.now s.tables.joins.now s.rises s.closes s.climbs s.under };
 
-    ghost small = { λ s. flat_small s.classes.now s.ends.now s.joins.now s.few_parts s.few_nets };
+    ghost small = { λ s. flat_small s.tables.classes.now s.tables.ends.now s.tables.joins.now s.few_parts s.few_nets };
 
     fn parts(&self) -> u16 {
-        self.classes.len() as u16
+        self.tables.classes.len() as u16
     }
 
     fn nets(&self) -> u16 {
-        self.ends.len() as u16
+        self.tables.ends.len() as u16
     }
 
     fn class(&self, v: u16) -> Option<u16> {
-        if (v as usize) < self.classes.len() {
-            Some(self.classes[v as usize])
-        } else {
-            None
-        }
+        self.tables.class(v)
     }
 
     fn size(&self, f: u16) -> u16 {
-        self.net(f).parts.len() as u16
+        self.net(f).size()
     }
 
     fn part(&self, f: u16, k: u16) -> Option<u16> {
-        let list = self.net(f).parts;
-        if (k as usize) < list.len() {
-            Some(list[k as usize])
-        } else {
-            None
-        }
+        self.net(f).part(k)
     }
 
     fn on(&self, v: u16, f: u16) -> bool {
-        holds(self.net(f).parts, v)
+        self.net(f).holds(v)
     }
 }

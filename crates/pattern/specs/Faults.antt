@@ -5,9 +5,9 @@ use Rattle.circuit.specs.declared.refusal.Reason.{Reason}
 use Rattle.circuit.specs.declared.refusal.Reason.TheVariants.{NetCount, PartCount, NetEnd, PartOrder, LoosePart}
 use Rattle.circuit.specs.declared.refusal.Refusal.{Refusal}
 use Rattle.tables.specs.declared.faults.Misfit.{Misfit}
-use Rattle.tables.specs.declared.faults.Misfit.TheVariants.{End, Join}
 use Rattle.tables.specs.Tables.{Spans, Closes}
-use Rattle.tables.specs.Faults.{WrongEnd, Stray, Fitting}
+use Rattle.tables.specs.Faults.{WrongEnd, Stray, Fitting, refused}
+use Rattle.pattern.specs.Whole.{Covers}
 
 pub record Limits (classes ends : List ℕ) : Type 0 where
   pub some_nets : 1 ≤ length ends
@@ -28,5 +28,10 @@ pub data Refused (classes ends joins : List ℕ) : Reason → ℕ → Type 0 whe
 
 -- the refusal for a wrong end or join
 abbrev pub by_misfit : Misfit → Refusal
-by_misfit (End f) = record { reason = NetEnd; place = f }
-by_misfit (Join k) = record { reason = PartOrder; place = k }
+by_misfit = refused NetEnd PartOrder
+
+-- v is the first of n parts that no join names
+pub record Loose (n : ℕ) (joins : List ℕ) (v : ℕ) : Type 0 where
+  pub part : v < n
+  pub free : member joins v ≡ false
+  pub earlier : Covers joins v

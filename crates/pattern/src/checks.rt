@@ -1,67 +1,50 @@
 // Whether three tables make a pattern.
-ghost use Rattle.std.specs.Prelude.{◌≡◌, ℕ, ◌<◌, ◌≤◌, true, false, MatchResult};
+ghost use Rattle.std.specs.Prelude.{◌≡◌, ℕ, ◌<◌, true, false, MatchOption, MatchResult};
 ghost use Rattle.circuit.specs.Circuit.{member};
-ghost use Rattle.pattern.specs.Whole.{Good};
-ghost use Rattle.pattern.specs.Faults.{Refused, by_misfit};
+ghost use Rattle.pattern.specs.Whole.{Covers, Good};
+ghost use Rattle.pattern.specs.Faults.{Loose, Refused};
 
 use circuit::{Reason, Refusal};
-use tables::{Misfit, first_misfit, holds};
+use tables::{Tables, holds};
 
-// The first of n parts that no join names, or n.
-fn first_loose(n: u16, joins: &[u16]) -> u16
-    ensures within { result ≤ n }
-    ensures before { (v : ℕ) → v < result → member joins.now v ≡ true }
-    ensures found { result < n → member joins.now result ≡ false }
+// The first of n parts that no join names.
+fn first_loose(n: u16, joins: &[u16]) -> Option<u16>
+    ensures { MatchOption result (Covers joins.now n) (λ v. Loose n joins.now v) }
 {
     for v in 0..n {
         if !holds(joins, v) {
-            return v;
+            return Some(v);
         }
     }
-    n
-}
-
-// The refusal for a wrong end or join.
-fn refusal_of(misfit: Misfit) -> Refusal
-    ensures { result ≡ by_misfit misfit }
-{
-    match misfit {
-        Misfit::End(net) => Refusal {
-            reason: Reason::NetEnd,
-            place: net,
-        },
-        Misfit::Join(join) => Refusal {
-            reason: Reason::PartOrder,
-            place: join,
-        },
-    }
+    None
 }
 
 // Says what is wrong with tables that make no pattern.
-pub fn check(classes: &[u16], ends: &[u16], joins: &[u16]) -> Result<(), Refusal>
-    ensures { MatchResult result (λ _. Good classes.now ends.now joins.now) (λ e. Refused classes.now ends.now joins.now e.reason e.place) }
+pub fn check(tables: Tables<'_>) -> Result<(), Refusal>
+    ensures { MatchResult result
+        (λ _. Good tables.entry.classes.now tables.entry.ends.now tables.entry.joins.now)
+        (λ e. Refused tables.entry.classes.now tables.entry.ends.now tables.entry.joins.now e.reason e.place) }
 {
-    if ends.len() == 0 || ends.len() > 16 {
+    if tables.ends.is_empty() || tables.ends.len() > 16 {
         return Err(Refusal {
             reason: Reason::NetCount,
             place: 0,
         });
     }
-    if classes.len() == 0 || classes.len() > 64 {
+    if tables.classes.is_empty() || tables.classes.len() > 64 {
         return Err(Refusal {
             reason: Reason::PartCount,
             place: 0,
         });
     }
-    if let Some(misfit) = first_misfit(classes.len(), 1, ends, joins) {
-        return Err(refusal_of(misfit));
+    if let Some(misfit) = tables.first_misfit(1) {
+        return Err(misfit.refusal(Reason::NetEnd, Reason::PartOrder));
     }
-    let v = first_loose(classes.len() as u16, joins) as usize;
-    if v < classes.len() {
-        return Err(Refusal {
+    match first_loose(tables.classes.len() as u16, tables.joins) {
+        Some(v) => Err(Refusal {
             reason: Reason::LoosePart,
-            place: v,
-        });
+            place: v as usize,
+        }),
+        None => Ok(()),
     }
-    Ok(())
 }

@@ -1,3 +1,4 @@
 pub mod Looks
 pub mod Checks
 pub mod Clipped
+pub mod Nets

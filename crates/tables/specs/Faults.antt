@@ -1,5 +1,7 @@
 -- What is wrong with an end or a join of three tables, and where it is wrong first.
 use Rattle.std.specs.Prelude.{◌≡◌, ℕ, ◌+◌, ◌-◌, ◌<◌, ◌≤◌, ◌⊎◌, List, length, slice_index, slice_index_or}
+use Rattle.circuit.specs.declared.refusal.Reason.{Reason}
+use Rattle.circuit.specs.declared.refusal.Refusal.{Refusal}
 use Rattle.tables.specs.Tables.{start, Spans, Closes, Climbs, Below}
 use Rattle.tables.specs.declared.faults.Misfit.{Misfit}
 use Rattle.tables.specs.declared.faults.Misfit.TheVariants.{End, Join}
@@ -8,6 +10,12 @@ use Rattle.tables.specs.declared.faults.Misfit.TheVariants.{End, Join}
 pub record Fine (n : ℕ) (joins : List ℕ) (from k : ℕ) : Type 0 where
   pub part : slice_index_or joins k 0 < n
   pub above : from < k → slice_index joins (k - 1) < slice_index joins k
+
+-- k is the first place of one net's list whose part is not fine
+pub record StrayIn (n : ℕ) (list : List ℕ) (k : ℕ) : Type 0 where
+  pub there : k < length list
+  pub bad : Fine n list 0 k → ⊥
+  pub earlier : (j : ℕ) → j < k → Fine n list 0 j
 
 -- k is the first join that is not fine
 pub record Stray (n : ℕ) (ends joins : List ℕ) (k : ℕ) : Type 0 where
@@ -38,3 +46,8 @@ pub record Fitting (n least : ℕ) (ends joins : List ℕ) : Type 0 where
   pub closes : Closes ends joins
   pub climbs : Climbs ends joins
   pub under : Below joins n
+
+-- the refusal for a wrong end or join, with the reason for each
+abbrev pub refused : Reason → Reason → Misfit → Refusal
+refused end join (End f) = record { reason = end; place = f }
+refused end join (Join k) = record { reason = join; place = k }

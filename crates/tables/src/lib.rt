@@ -5,5 +5,4 @@ mod faults;
 mod lists;
 
 pub use faults::Misfit;
-pub use faults::checks::first_misfit;
-pub use lists::{NetList, holds, net_list};
+pub use lists::{NetList, Tables, holds};

@@ -1,55 +1,89 @@
-// A net's list, and whether a list holds a part.
-ghost use Rattle.std.specs.Prelude.{◌≡◌, ℕ, min, List, length, if◌then◌else◌, nat_lt, slice_index};
-ghost use Rattle.circuit.specs.Circuit.{member, net};
-ghost use Rattle.tables.specs.Tables.{circuit_of, start};
+// The three tables, a net's list among the joins, and whether a list holds a part.
+ghost use Rattle.std.specs.Prelude.{◌≡◌, ◌<◌, min, length, if◌then◌else◌, nat_lt, slice_index};
+ghost use Rattle.circuit.specs.Circuit.{at, member, net};
+ghost use Rattle.tables.specs.Tables.{start};
+ghost use Rattle.tables.specs.Drawn.{drawn_in};
+
+// A class for each part, an end for each net, and the joins: they always travel together.
+#[derive(Clone, Copy)]
+pub struct Tables<'a> {
+    pub classes: &'a [u16],
+    pub ends: &'a [u16],
+    pub joins: &'a [u16],
+}
 
 // A net's list: a part of the joins, and where it begins there.
 #[derive(Clone, Copy)]
 pub struct NetList<'a> {
     pub place: usize,
     pub parts: &'a [u16],
+    // an end is a u16, and so is the size of a list that ends there
+    ghost few: { length parts.now < 65536 },
 }
 
-// Where net f begins.
-pub(super) fn start_of(ends: &[u16], f: usize) -> usize
-    ensures { result ≡ start ends.now f }
-{
-    if f == 0 {
-        return 0;
+impl<'a> Tables<'a> {
+    // A part's class, absent off the tables.
+    pub fn class(self, v: u16) -> Option<u16>
+        ensures { result ≡ at self.entry.classes.now v }
+    {
+        self.classes.get(v as usize).copied()
     }
-    if f > ends.len() {
-        return 0;
-    }
-    ends[f - 1] as usize
-}
 
-// The list of net f, empty off the tables and where the ends do not fit the joins.
-pub fn net_list<'a>(ends: &[u16], joins: &'a [u16], f: u16) -> NetList<'a>
-    ensures list { (classes : List ℕ) → result.parts.now ≡ net (circuit_of classes ends.now joins.now) f }
-    ensures place { result.place ≡ (if nat_lt f (length ends.now) then min (start ends.now f) (min (slice_index ends.now f) (length joins.now)) else 0) }
-{
-    let f = f as usize;
-    if f >= ends.len() {
-        return NetList {
-            place: 0,
-            parts: &joins[0..0],
+    // Where net f begins: where the net before it ends.
+    fn start_of(self, f: usize) -> usize
+        ensures { result ≡ start self.entry.ends.now f }
+    {
+        if f == 0 {
+            return 0;
+        }
+        self.ends.get(f - 1).copied().unwrap_or(0) as usize
+    }
+
+    // The list of net f, empty off the tables and where the ends do not fit the joins.
+    pub fn net(self, f: u16) -> NetList<'a>
+        ensures list { result.parts.now ≡ net (drawn_in self.entry) f }
+        ensures place { result.place ≡ (if nat_lt f (length self.entry.ends.now) then min (start self.entry.ends.now f) (min (slice_index self.entry.ends.now f) (length self.entry.joins.now)) else 0) }
+    {
+        let f = f as usize;
+        let Some(end) = self.ends.get(f).copied() else {
+            return NetList {
+                place: 0,
+                parts: &[],
+            };
         };
+        let to = (end as usize).min(self.joins.len());
+        let from = self.start_of(f).min(to);
+        NetList {
+            place: from,
+            parts: &self.joins[from..to],
+        }
     }
-    let to = (ends[f] as usize).min(joins.len());
-    let from = start_of(ends, f).min(to);
-    NetList {
-        place: from,
-        parts: &joins[from..to],
+}
+
+impl<'a> NetList<'a> {
+    // How many parts the list has.
+    pub fn size(self) -> u16
+        ensures { result ≡ length self.entry.parts.now }
+    {
+        self.parts.len() as u16
+    }
+
+    // The k-th part, absent from the list's size on.
+    pub fn part(self, k: u16) -> Option<u16>
+        ensures { result ≡ at self.entry.parts.now k }
+    {
+        self.parts.get(k as usize).copied()
+    }
+
+    pub fn holds(self, v: u16) -> bool
+        ensures { result ≡ member self.entry.parts.now v }
+    {
+        holds(self.parts, v)
     }
 }
 
 pub fn holds(parts: &[u16], v: u16) -> bool
     ensures { result ≡ member parts.now v }
 {
-    for x in parts {
-        if *x == v {
-            return true;
-        }
-    }
-    false
+    parts.contains(&v)
 }

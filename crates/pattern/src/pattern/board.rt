@@ -1,11 +1,12 @@
 ghost use Rattle.std.specs.Prelude.{◌≡◌, ◌≤◌, length};
 ghost use Rattle.circuit.specs.Circuit.{net};
+ghost use Rattle.tables.specs.Drawn.{drawn_in};
 ghost use Rattle.pattern.specs.Drawn.{drawn};
 ghost use Rattle.pattern.specs.Kept.{drawn_sound, drawn_small};
 
 use super::Pattern;
 use circuit::Board;
-use tables::{holds, net_list};
+use tables::{NetList, Tables};
 
 impl Pattern {
     // How many nets the pattern has: 1 to 16.
@@ -14,13 +15,23 @@ impl Pattern {
         ensures some { 1 ≤ result }
         ensures few { result ≤ 16 }
     {
-        self.nets as u16
+        self.ends.len() as u16
     }
 
-    fn list(&self, f: u16) -> &[u16]
-        ensures { result.now ≡ net (drawn self.now) f }
+    fn tables(&self) -> Tables<'_>
+        ensures { drawn_in result ≡ drawn self.now }
     {
-        net_list(&self.ends[0..self.nets], &self.joins[0..self.total], f).parts
+        Tables {
+            classes: self.classes.as_slice(),
+            ends: self.ends.as_slice(),
+            joins: self.joins.as_slice(),
+        }
+    }
+
+    fn list(&self, f: u16) -> NetList<'_>
+        ensures { result.parts.now ≡ net (drawn self.now) f }
+    {
+        self.tables().net(f)
     }
 }
 
@@ -32,7 +43,7 @@ impl Board for Pattern {
     ghost small = { λ s. drawn_small s };
 
     fn parts(&self) -> u16 {
-        self.parts as u16
+        self.classes.len() as u16
     }
 
     fn nets(&self) -> u16 {
@@ -40,27 +51,18 @@ impl Board for Pattern {
     }
 
     fn class(&self, v: u16) -> Option<u16> {
-        if (v as usize) < self.parts {
-            Some(self.classes[v as usize])
-        } else {
-            None
-        }
+        self.tables().class(v)
     }
 
     fn size(&self, f: u16) -> u16 {
-        self.list(f).len() as u16
+        self.list(f).size()
     }
 
     fn part(&self, f: u16, k: u16) -> Option<u16> {
-        let list = self.list(f);
-        if (k as usize) < list.len() {
-            Some(list[k as usize])
-        } else {
-            None
-        }
+        self.list(f).part(k)
     }
 
     fn on(&self, v: u16, f: u16) -> bool {
-        holds(self.list(f), v)
+        self.list(f).holds(v)
     }
 }

@@ -1,74 +1,71 @@
 // Looks for the first wrong end, then for the first wrong join.
-ghost use Rattle.std.specs.Prelude.{◌≡◌, ℕ, ◌+◌, ◌<◌, ◌≤◌, length, MatchOption, slice_index};
-ghost use Rattle.tables.specs.Tables.{start, Rises, Closes};
-ghost use Rattle.tables.specs.Faults.{Fine, Stray, AllFine, Wrong, Fitting};
+ghost use Rattle.std.specs.Prelude.{◌≡◌, ℕ, ◌<◌, length, MatchOption};
+ghost use Rattle.tables.specs.Tables.{Spans, Rises, Closes};
+ghost use Rattle.tables.specs.Faults.{Fine, StrayIn, Stray, AllFine, WrongEnd, Wrong, Fitting};
 
-use super::super::lists::start_of;
 use super::Misfit;
+use crate::lists::Tables;
 
-// The first net with fewer than `least` parts, or the number of nets.
-fn first_short(least: u16, ends: &[u16]) -> usize
-    ensures within { result ≤ length ends.now }
-    ensures before { (g : ℕ) → g < result → start ends.now g + least ≤ slice_index ends.now g }
-    ensures found { result < length ends.now → slice_index ends.now result < start ends.now result + least }
+// Where the first part stands in a net's list that is none of n parts, or not above the part before it.
+fn stray_in(n: usize, list: &[u16]) -> Option<usize>
+    ensures { MatchOption result ((k : ℕ) → k < length list.now → Fine n list.now 0 k) (λ k. StrayIn n list.now k) }
 {
-    for f in 0..ends.len() {
-        if (ends[f] as usize) < start_of(ends, f) + least as usize {
-            return f;
-        }
-    }
-    ends.len()
-}
-
-// The first join of one net that is not fine, or the net's end.
-fn stray_in(n: usize, joins: &[u16], from: usize, to: usize) -> usize
-    requires rises { from ≤ to }
-    requires within { to ≤ length joins.now }
-    ensures low { from ≤ result }
-    ensures high { result ≤ to }
-    ensures before { (k : ℕ) → from ≤ k → k < result → Fine n joins.now from k }
-    ensures found { result < to → Fine n joins.now from result → ⊥ }
-{
-    for k in from..to {
-        if joins[k] as usize >= n {
-            return k;
-        }
-        if k > from && joins[k - 1] >= joins[k] {
-            return k;
-        }
-    }
-    to
-}
-
-// The first join that is not fine.
-fn first_stray(n: usize, ends: &[u16], joins: &[u16]) -> Option<usize>
-    requires rises { Rises ends.now }
-    requires closes { Closes ends.now joins.now }
-    ensures { MatchOption result (AllFine n ends.now joins.now (length ends.now)) (λ k. Stray n ends.now joins.now k) }
-{
-    for f in 0..ends.len() {
-        let to = ends[f] as usize;
-        let k = stray_in(n, joins, start_of(ends, f), to);
-        if k < to {
+    let mut least = 0;
+    for (k, part) in list.iter().enumerate() {
+        let v = *part as usize;
+        if v < least || v >= n {
             return Some(k);
         }
+        least = v + 1;
     }
     None
 }
 
-// What is wrong first with tables of n parts whose nets have at least `least` parts each.
-pub fn first_misfit(n: usize, least: u16, ends: &[u16], joins: &[u16]) -> Option<Misfit>
-    ensures { MatchOption result (Fitting n least ends.now joins.now) (λ m. Wrong n least ends.now joins.now m) }
-{
-    let f = first_short(least, ends);
-    if f < ends.len() {
-        return Some(Misfit::End(f));
+impl<'a> Tables<'a> {
+    // The first wrong end: that of a net with fewer than `least` parts; or the last, where it is not the number of joins.
+    fn first_wrong_end(self, least: u16) -> Option<usize>
+        ensures { MatchOption result (Spans least self.entry.ends.now × Closes self.entry.ends.now self.entry.joins.now) (λ f. WrongEnd least self.entry.ends.now self.entry.joins.now f) }
+    {
+        let mut from = 0;
+        for (f, end) in self.ends.iter().enumerate() {
+            let to = *end as usize;
+            if to < from + least as usize {
+                return Some(f);
+            }
+            from = to;
+        }
+        if from != self.joins.len() {
+            return Some(self.ends.len());
+        }
+        None
     }
-    if start_of(ends, ends.len()) != joins.len() {
-        return Some(Misfit::End(ends.len()));
+
+    // The first join that is not fine.
+    fn first_stray(self) -> Option<usize>
+        requires rises { Rises self.ends.now }
+        requires closes { Closes self.ends.now self.joins.now }
+        ensures { MatchOption result (AllFine (length self.entry.classes.now) self.entry.ends.now self.entry.joins.now (length self.entry.ends.now)) (λ k. Stray (length self.entry.classes.now) self.entry.ends.now self.entry.joins.now k) }
+    {
+        let mut from = 0;
+        for end in self.ends {
+            let to = *end as usize;
+            if let Some(k) = stray_in(self.classes.len(), &self.joins[from..to]) {
+                return Some(from + k);
+            }
+            from = to;
+        }
+        None
     }
-    match first_stray(n, ends, joins) {
-        Some(k) => Some(Misfit::Join(k)),
-        None => None,
+
+    // What is wrong first with tables whose nets are to have at least `least` parts each.
+    pub fn first_misfit(self, least: u16) -> Option<Misfit>
+        ensures { MatchOption result
+            (Fitting (length self.entry.classes.now) least self.entry.ends.now self.entry.joins.now)
+            (λ m. Wrong (length self.entry.classes.now) least self.entry.ends.now self.entry.joins.now m) }
+    {
+        match self.first_wrong_end(least) {
+            Some(net) => Some(Misfit::End(net)),
+            None => Some(Misfit::Join(self.first_stray()?)),
+        }
     }
 }

@@ -1,43 +1,26 @@
-use Rattle.std.proofs.Common.{◌≡◌, ℕ, List, length, sym, subst, inl, inr, arith}
+use Rattle.std.proofs.Common.{◌≡◌, ℕ, ◌≤◌, List, length, sym, subst, inl, inr, arith}
+use Rattle.std.proofs.lemmas.Bool.Decides.{nat_tests}
 use Rattle.circuit.specs.declared.refusal.Refusal.{Refusal}
 use Rattle.tables.specs.declared.faults.Misfit.{Misfit}
 use Rattle.tables.specs.declared.faults.Misfit.TheVariants.{End, Join}
 use Rattle.tables.specs.Faults.{Wrong}
 use Rattle.pattern.specs.Faults.{Limits, Refused, by_misfit, net_count, part_count, net_end, part_order, loose_part}
 use Rattle.pattern.proofs.checks.check.Goals as goal
-use Rattle.pattern.proofs.checks.check.Goals.{then-ends-eq0-via-then-ends-eq0, then-ends-eq0-via-else-ends-eq0+then-ends-gt16, then-classes-eq0-via-then-classes-eq0, then-classes-eq0-via-else-classes-eq0+then-classes-gt64}
+use Rattle.pattern.proofs.checks.check.Goals.{then-is_empty-via-then-is_empty, then-is_empty-via-else-is_empty+then-tables-gt16, then-is_empty-2-via-then-is_empty-2, then-is_empty-2-via-else-is_empty-2+then-tables-gt64}
 
-pub returns-then-ends-eq0 : goal.returns-then-ends-eq0
-returns-then-ends-eq0 c = elim c.then-ends-eq0.branch [
-  | then-ends-eq0-via-then-ends-eq0 w ↦ net_count (inl w.if-ends-eq0.true)
-  | then-ends-eq0-via-else-ends-eq0+then-ends-gt16 w ↦ net_count (inr w.if-ends-gt16.true)
+pub returns-then-is_empty : goal.returns-then-is_empty
+returns-then-is_empty c = elim c.then-is_empty.branch [
+  | then-is_empty-via-then-is_empty w ↦ let none : length c.args.tables.ends.now ≡ 0 = grind (arith, nat_tests) in net_count (inl none)
+  | then-is_empty-via-else-is_empty+then-tables-gt16 w ↦ net_count (inr w.if-tables-gt16.true)
 ]
 
-pub returns-then-classes-eq0 : goal.returns-then-classes-eq0
-returns-then-classes-eq0 c = elim c.then-classes-eq0.branch [
-  | then-classes-eq0-via-then-classes-eq0 w ↦ part_count (omega arith) (omega arith) (inl w.if-classes-eq0.true)
-  | then-classes-eq0-via-else-classes-eq0+then-classes-gt64 w ↦ part_count (omega arith) (omega arith) (inr w.if-classes-gt64.true)
-]
-
-pub returns-then-v-classes : goal.returns-then-v-classes
-returns-then-v-classes c =
-    loose_part c.first_loose-v.result (record { some_nets = omega arith; few_nets = omega arith; some_parts = omega arith; few_parts = omega arith }) c.in_default.ensures c.if-v-classes.true
-    c.first_loose-v.ensures.before (c.first_loose-v.ensures.found (omega arith))
-
-pub returns : goal.returns
-returns c =
-    let fits = c.in_default.ensures in
-    record {
-      some_nets = omega arith;
-      few_nets = omega arith;
-      some_parts = omega arith;
-      few_parts = omega arith;
-      spans = fits.spans;
-      closes = fits.closes;
-      climbs = fits.climbs;
-      under = fits.under;
-      covers = λ v h. c.first_loose-v.ensures.before v (omega arith);
-    }
+pub returns-then-is_empty-2 : goal.returns-then-is_empty-2
+returns-then-is_empty-2 c =
+    let some_nets : 1 ≤ length c.args.tables.ends.now = grind (arith, nat_tests) in
+    elim c.then-is_empty-2.branch [
+      | then-is_empty-2-via-then-is_empty-2 w ↦ let none : length c.args.tables.classes.now ≡ 0 = grind (arith, nat_tests) in part_count some_nets (omega arith) (inl none)
+      | then-is_empty-2-via-else-is_empty-2+then-tables-gt64 w ↦ part_count some_nets (omega arith) (inr w.if-tables-gt64.true)
+    ]
 
 -- a wrong end or join is refused as the definition has it
 refused_for : (classes ends joins : List ℕ) (m : Misfit) (e : Refusal) → e ≡ by_misfit m → Limits classes ends → Wrong (length classes) 1 ends joins m
@@ -49,5 +32,13 @@ refused_for classes ends joins (Join k) e is lim w =
 
 pub returns-in-Some : goal.returns-in-Some
 returns-in-Some c =
-    refused_for c.args.classes.now c.args.ends.now c.args.joins.now c.in-Some.misfit c.refusal_of.result c.refusal_of.ensures
-    (record { some_nets = omega arith; few_nets = omega arith; some_parts = omega arith; few_parts = omega arith }) c.in-Some.ensures
+    let t = c.args.tables in
+    let lim : Limits t.classes.now t.ends.now = record { some_nets = grind (arith, nat_tests); few_nets = omega arith; some_parts = grind (arith, nat_tests); few_parts = omega arith } in
+    refused_for t.classes.now t.ends.now t.joins.now c.in-Some.misfit c.refusal.result c.refusal.ensures lim c.in-Some.ensures
+
+pub returns-in-Some-first_loose : goal.returns-in-Some-first_loose
+returns-in-Some-first_loose c =
+    let t = c.args.tables in
+    let lim : Limits t.classes.now t.ends.now = record { some_nets = grind (arith, nat_tests); few_nets = omega arith; some_parts = grind (arith, nat_tests); few_parts = omega arith } in
+    let loose = c.in-Some-first_loose.ensures in
+    loose_part c.in-Some-first_loose.v lim c.in_default.ensures loose.part loose.earlier loose.free
