@@ -1,11 +1,9 @@
 -- That labels of one class are alike, and alike labels of one class.
-use Rattle.std.proofs.Common.{◌≡◌, ℕ, zero, suc, ◌+◌, ◌<◌, ◌≤◌, Bool, true, false, cond, ◌||◌, T, ltb, ◌⊎◌, ◌↔◌, List, [], ◌∷◌, map, length, get_or, Ok, Result, sym, refl, ap, ◌∙◌, subst, inl, inr, arith, ltb-false, ltb-true}
+use Rattle.std.proofs.Common.{◌≡◌, ℕ, zero, suc, ◌+◌, ◌<◌, ◌≤◌, Bool, true, false, cond, T, ltb, ◌⊎◌, ◌↔◌, List, [], ◌∷◌, map, length, get_or, Ok, sym, refl, ap, ◌∙◌, subst, inl, inr, arith, ltb-false, ltb-true}
 use Rattle.std.proofs.lemmas.Float.{T_from_true}
 use Rattle.labels.specs.Classes.{first, unfit, class}
-use Rattle.circuit.specs.declared.refusal.Reason.{Reason}
-use Rattle.circuit.specs.declared.refusal.Reason.TheVariants.{LabelCount, ClassRoom, UnfitLabel}
-use Rattle.circuit.specs.declared.refusal.Refusal.{Refusal}
-use Rattle.labels.specs.Refusals.{refused}
+use Rattle.std.proofs.lemmas.Bool.Decides.{nat_tests}
+use Rattle.labels.specs.Refusals.{verdict}
 use Rattle.labels.specs.Likeness.{true_from}
 use Rattle.labels.specs.Alike.{In, Tells, alike_to, alike_at, Wrote}
 
@@ -119,14 +117,9 @@ agree_at same ps bs tells u v l k =
     let (one, other) = tells x y (inl x-in) (inr y-in) in
     ((λ e. a ∙ d ∙ true_from (same x y) (one (sym x-is ∙ e ∙ y-is))), (λ e. x-is ∙ other (T_from_true (same x y) (sym d ∙ sym a ∙ e)) ∙ sym y-is))
 
--- a chain of refusals that ends in Ok passed each test
-passed : (t : Bool) (why : Reason) (p : ℕ) (rest : Result (Unit {0}) Refusal) → cond t (refused why p) rest ≡ Ok tt → (t ≡ false) × (rest ≡ Ok tt)
-passed true why p rest e = cc
-passed false why p rest e = (refl, e)
-
-neither : (s t : Bool) → (s || t) ≡ false → (s ≡ false) × (t ≡ false)
-neither true t e = cc
-neither false t e = (refl, e)
+-- a verdict that refuses nothing passed each test
+passed : {L : Type 0} (proper : L → Bool) (ps bs : List L) (m n : ℕ) → verdict proper ps bs m n ≡ Ok tt → (length ps ≤ 64) × (length ps ≤ unfit proper ps) × (length bs ≤ unfit proper bs)
+passed proper ps bs m n e = (grind (arith, nat_tests), grind (arith, nat_tests), grind (arith, nat_tests))
 
 pub wrote_tells : {L : Type 0} (proper : L → Bool) (same : L → L → Bool)
     → ((x : L) → T (proper x) → T (same x x))
@@ -134,10 +127,5 @@ pub wrote_tells : {L : Type 0} (proper : L → Bool) (same : L → L → Bool)
     → ((x y z : L) → T (proper x) → T (proper y) → T (proper z) → T (same x y) → T (same y z) → T (same x z))
     → (ps bs : List L) (pc bc : List ℕ) → Wrote proper same ps bs pc bc → Tells same ps bs
 wrote_tells proper same itself turned chained ps bs pc bc w =
-    let (few, a) = passed (ltb 64 (length ps) || ltb 4096 (length bs)) LabelCount 0 _ w.answered in
-    let (room, b) = passed (ltb w.room.0 (length ps) || ltb w.room.1 (length bs)) ClassRoom 0 _ a in
-    let (fp, d) = passed (ltb (unfit proper ps) (length ps)) UnfitLabel (unfit proper ps) _ b in
-    let (fb, e) = passed (ltb (unfit proper bs) (length bs)) UnfitLabel (64 + unfit proper bs) _ d in
-    let (small, _) = neither (ltb 64 (length ps)) (ltb 4096 (length bs)) few in
-    tells proper same itself turned chained ps bs (ltb-false _ _ small)
-    (fits_from proper ps (ltb-false _ _ fp)) (fits_from proper bs (ltb-false _ _ fb))
+    let (few, fp, fb) = passed proper ps bs w.room.0 w.room.1 w.answered in
+    tells proper same itself turned chained ps bs few (fits_from proper ps fp) (fits_from proper bs fb)
