@@ -5,6 +5,7 @@ mod samples;
 use crate::answers::{Found, IN_TURN, KEPT, Verdict};
 use crate::cases::Case;
 use cases::{CASES, Side, Sides};
+use circuit::Refusal;
 use labels::{Catalogue, Label, Measured, label_parts};
 use samples::Sample;
 use std::alloc::Global;
@@ -42,41 +43,51 @@ fn last_class(classes: &[u16], labels: u16) -> Found {
     Found(classes.iter().take(labels as usize).last().copied())
 }
 
-// What the class tables hold after labels were accepted.
-fn show_written(
-    rt: &HostRuntime,
-    sides: &Sides,
-    pattern_classes: &[u16],
-    board_classes: &[u16],
-) -> anyhow::Result<()> {
-    let pattern = sides.pattern.labels;
-    let board = sides.board.labels;
-    let right = in_turn(pattern_classes, 0, pattern)
-        && in_turn(board_classes, FIRST_BOARD_CLASS, board);
-    let word = IN_TURN.of(right);
-    let pattern_last = last_class(pattern_classes, pattern);
-    let board_last = last_class(board_classes, board);
-    println!(rt; "accepted, last classes {pattern_last} and {board_last}, {word}")?;
-    Ok(())
+// The class tables of a pattern and of a board.
+#[derive(Debug, Drop)]
+struct Classes {
+    pattern: Vec<u16>,
+    board: Vec<u16>,
+}
+
+impl Classes {
+    // Tables with room for so many classes, all marks.
+    fn marked(heap: Global, pattern: usize, board: usize) -> anyhow::Result<Classes> {
+        let pattern = vec![in heap; MARK; pattern]?;
+        let board = vec![in heap; MARK; board]?;
+        Ok(Classes { pattern, board })
+    }
+
+    fn write<L: Label>(&mut self, pattern: &[L], board: &[L]) -> Result<(), Refusal> {
+        label_parts(pattern, board, &mut self.pattern, &mut self.board)
+    }
+
+    // Whether so many labels of each side have classes in turn, and nothing else is written.
+    fn in_turn(&self, pattern: u16, board: u16) -> bool {
+        in_turn(&self.pattern, 0, pattern) && in_turn(&self.board, FIRST_BOARD_CLASS, board)
+    }
 }
 
 fn show_case<L: Sample>(rt: &HostRuntime, sort: &str, case: &Case<Sides>) -> anyhow::Result<()> {
     let heap = rt.alloc();
-    let sides = &case.tried;
-    let pattern: Vec<L> = labels_of(heap, &sides.pattern, 0)?;
-    let board: Vec<L> = labels_of(heap, &sides.board, FIRST_BOARD_CLASS)?;
-    let mut pattern_classes = vec![in heap; MARK; sides.pattern.room as usize]?;
-    let mut board_classes = vec![in heap; MARK; sides.board.room as usize]?;
-    let answer = label_parts(&pattern, &board, &mut pattern_classes, &mut board_classes);
     let name = case.name;
-    print!(rt; "label_parts, {sort}, {name}: ")?;
+    let Sides { pattern, board } = case.tried;
+    let pattern_labels: Vec<L> = labels_of(heap, &pattern, 0)?;
+    let board_labels: Vec<L> = labels_of(heap, &board, FIRST_BOARD_CLASS)?;
+    let mut classes = Classes::marked(heap, usize::from(pattern.room), usize::from(board.room))?;
+    let answer = classes.write(&pattern_labels, &board_labels);
     if answer.is_ok() {
-        return show_written(rt, sides, &pattern_classes, &board_classes);
+        let pattern_last = last_class(&classes.pattern, pattern.labels);
+        let board_last = last_class(&classes.board, board.labels);
+        let word = IN_TURN.of(classes.in_turn(pattern.labels, board.labels));
+        println!(rt;
+            "label_parts, {sort}, {name}: accepted, last classes {pattern_last} and {board_last}, {word}"
+        )?;
+    } else {
+        let verdict = Verdict(answer);
+        let word = KEPT.of(classes.in_turn(0, 0));
+        println!(rt; "label_parts, {sort}, {name}: {verdict}, {word}")?;
     }
-    let verdict = Verdict(answer);
-    let kept = in_turn(&pattern_classes, 0, 0) && in_turn(&board_classes, 0, 0);
-    let word = KEPT.of(kept);
-    println!(rt; "{verdict}, {word}")?;
     Ok(())
 }
 
@@ -87,12 +98,12 @@ fn show_whole<L: Label>(
     pattern: &[L],
     board: &[L],
 ) -> anyhow::Result<()> {
-    let mut pattern_classes = vec![in rt.alloc(); MARK; pattern.len().saturating_add(1)]?;
-    let mut board_classes = vec![in rt.alloc(); MARK; board.len().saturating_add(1)]?;
-    let verdict = Verdict(label_parts(pattern, board, &mut pattern_classes, &mut board_classes));
-    println!(rt;
-        "label_parts, {sort}, whole: {verdict}, {pattern_classes:?} and {board_classes:?}"
-    )?;
+    let pattern_room = pattern.len().saturating_add(1);
+    let board_room = board.len().saturating_add(1);
+    let mut classes = Classes::marked(rt.alloc(), pattern_room, board_room)?;
+    let verdict = Verdict(classes.write(pattern, board));
+    let Classes { pattern, board } = classes;
+    println!(rt; "label_parts, {sort}, whole: {verdict}, {pattern:?} and {board:?}")?;
     Ok(())
 }
 
