@@ -1,48 +1,39 @@
 // Whether a board answers as its tables say.
 use crate::drafts::Tables;
 use circuit::Board;
+use std::iter::once;
 
 fn classes_agree<B: Board>(board: &B, classes: &[u16]) -> bool {
-    for part in 0..board.parts() {
-        if board.class(part) != classes.get(part as usize).copied() {
-            return false;
-        }
-    }
-    board.class(board.parts()).is_none()
+    board.parts() as usize == classes.len()
+        && board.class(board.parts()).is_none()
+        && (0..board.parts())
+            .zip(classes)
+            .all(|(part, class)| board.class(part) == Some(*class))
 }
 
 fn net_agrees<B: Board>(board: &B, net: u16, list: &[u16]) -> bool {
     let size = board.size(net);
-    for (place, part) in (0..size).zip(list) {
-        if board.part(net, place) != Some(*part) || !board.on(*part, net) {
-            return false;
-        }
-    }
-    size as usize == list.len() && board.part(net, size).is_none()
+    size as usize == list.len()
+        && board.part(net, size).is_none()
+        && (0..size).zip(list).all(|(place, part)| board.part(net, place) == Some(*part)
+            && board.on(*part, net))
 }
 
 // The joins from one place up to another, none where they do not go so far.
-fn joins_between(joins: &[u16], from: usize, to: usize) -> &[u16] {
-    match joins.get(from..to) {
-        Some(list) => list,
-        None => &[],
-    }
+fn joins_between(joins: &[u16], from: u16, to: u16) -> &[u16] {
+    joins.get(from as usize..to as usize).unwrap_or(&[])
 }
 
 fn nets_agree<B: Board>(board: &B, ends: &[u16], joins: &[u16]) -> bool {
-    let mut start = 0;
-    for (net, end) in (0..board.nets()).zip(ends) {
-        let end = *end as usize;
-        if !net_agrees(board, net, joins_between(joins, start, end)) {
-            return false;
-        }
-        start = end;
-    }
+    let starts = once(0).chain(ends.iter().copied());
     board.nets() as usize == ends.len()
+        && (0..board.nets()).zip(starts.zip(ends)).all(|(net, (start, end))| net_agrees(
+            board,
+            net,
+            joins_between(joins, start, *end),
+        ))
 }
 
 pub fn answers_as<B: Board>(board: &B, tables: &Tables) -> bool {
-    board.parts() as usize == tables.classes.len()
-        && classes_agree(board, &tables.classes)
-        && nets_agree(board, &tables.ends, &tables.joins)
+    classes_agree(board, &tables.classes) && nets_agree(board, &tables.ends, &tables.joins)
 }

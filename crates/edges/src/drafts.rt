@@ -1,22 +1,27 @@
 // Tables of circuits, right or wrong, from short drafts.
-use circuit::{Board, class_of, part_of};
+use boards::FlatBoard;
+use circuit::{Board, Refusal, class_of, part_of};
+use pattern::Pattern;
 use std::alloc::Global;
 
+#[derive(Clone, Copy, Debug, PartialEq, Eq)]
 pub enum Draft {
-    // so many parts, the ends and the joins
-    Listed(u16, &'static [u16], &'static [u16]),
-    // so many parts, so many nets, and how many parts each net has, from part 0 on
-    Grid(u16, u16, u16),
-}
-
-// Tables that are tried, and what they are called.
-pub struct Case {
-    pub name: &'static str,
-    pub draft: Draft,
+    // so many parts, with the ends and the joins written out
+    Listed {
+        parts: u16,
+        ends: &'static [u16],
+        joins: &'static [u16],
+    },
+    // so many parts and nets, and on each net so many parts, from part 0 on
+    Grid {
+        parts: u16,
+        nets: u16,
+        each: u16,
+    },
 }
 
 // A class for each part, an end for each net, and the joins.
-#[derive(Drop)]
+#[derive(Debug, PartialEq, Eq, Drop)]
 pub struct Tables {
     pub classes: Vec<u16>,
     pub ends: Vec<u16>,
@@ -34,9 +39,8 @@ impl Tables {
 
     // Classes count from 100, so that a class of a small circuit is none of its parts.
     fn add_parts(&mut self, parts: u16) -> anyhow::Result<()> {
-        for part in 0..parts {
-            self.classes.push(part.wrapping_add(100))?;
-        }
+        self.classes
+            .extend((0..parts).map(|part| part.wrapping_add(100)))?;
         Ok(())
     }
 
@@ -46,57 +50,54 @@ impl Tables {
         Ok(())
     }
 
-    fn add_net(&mut self, parts: u16) -> anyhow::Result<()> {
-        for part in 0..parts {
-            self.joins.push(part)?;
-        }
-        self.end_net()
-    }
-
-    fn add_nets(&mut self, nets: u16, each: u16) -> anyhow::Result<()> {
-        for _ in 0..nets {
-            self.add_net(each)?;
-        }
-        Ok(())
-    }
-
     pub fn drawn(heap: Global, draft: &Draft) -> anyhow::Result<Tables> {
         let mut tables = Tables::empty(heap);
         match *draft {
-            Draft::Listed(parts, ends, joins) => {
+            Draft::Listed { parts, ends, joins } => {
                 tables.add_parts(parts)?;
                 tables.ends.extend_from_slice(ends)?;
                 tables.joins.extend_from_slice(joins)?;
             }
-            Draft::Grid(parts, nets, each) => {
+            Draft::Grid { parts, nets, each } => {
                 tables.add_parts(parts)?;
-                tables.add_nets(nets, each)?;
+                for _ in 0..nets {
+                    tables.joins.extend(0..each)?;
+                    tables.end_net()?;
+                }
             }
         }
         Ok(tables)
-    }
-
-    fn read_net<B: Board>(&mut self, board: &B, net: u16) -> anyhow::Result<()> {
-        for place in 0..board.size(net) {
-            self.joins.push(part_of(board, net, place))?;
-        }
-        self.end_net()
-    }
-
-    fn read_nets<B: Board>(&mut self, board: &B) -> anyhow::Result<()> {
-        for net in 0..board.nets() {
-            self.read_net(board, net)?;
-        }
-        Ok(())
     }
 
     // The tables that a board answers from.
     pub fn read<B: Board>(heap: Global, board: &B) -> anyhow::Result<Tables> {
         let mut tables = Tables::empty(heap);
-        for part in 0..board.parts() {
-            tables.classes.push(class_of(board, part))?;
+        tables
+            .classes
+            .extend((0..board.parts()).map(|part| class_of(board, part)))?;
+        for net in 0..board.nets() {
+            let size = board.size(net);
+            tables
+                .joins
+                .extend((0..size).map(|place| part_of(board, net, place)))?;
+            tables.end_net()?;
         }
-        tables.read_nets(board)?;
         Ok(tables)
+    }
+
+    pub fn check_board(&self) -> Result<(), Refusal> {
+        boards::check(&self.classes, &self.ends, &self.joins)
+    }
+
+    pub fn board(&self) -> FlatBoard<'_> {
+        FlatBoard::make(&self.classes, &self.ends, &self.joins)
+    }
+
+    pub fn check_pattern(&self) -> Result<(), Refusal> {
+        pattern::check(&self.classes, &self.ends, &self.joins)
+    }
+
+    pub fn make_pattern(&self, pattern: &mut Pattern) -> Result<(), Refusal> {
+        pattern.make(&self.classes, &self.ends, &self.joins)
     }
 }

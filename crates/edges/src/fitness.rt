@@ -1,56 +1,53 @@
 // Which labels are fit.
-use crate::answers::yes_or_no;
+use crate::answers::YES;
+use crate::cases::Case;
 use labels::{Catalogue, Label, Measured};
+use std::fmt;
 
-struct Number {
-    name: &'static str,
-    value: f64,
-}
-
-static NUMBERS: [Number; 11] = [
-    Number {
+static NUMBERS: [Case<f64>; 11] = [
+    Case {
         name: "0",
-        value: 0.0,
+        tried: 0.0,
     },
-    Number {
+    Case {
         name: "minus zero",
-        value: -0.0,
+        tried: -0.0,
     },
-    Number {
+    Case {
         name: "smallest positive",
-        value: 5e-324,
+        tried: 5e-324,
     },
-    Number {
+    Case {
         name: "largest finite",
-        value: f64::MAX,
+        tried: f64::MAX,
     },
-    Number {
+    Case {
         name: "1",
-        value: 1.0,
+        tried: 1.0,
     },
-    Number {
+    Case {
         name: "minus 1",
-        value: -1.0,
+        tried: -1.0,
     },
-    Number {
+    Case {
         name: "minus smallest positive",
-        value: -5e-324,
+        tried: -5e-324,
     },
-    Number {
+    Case {
         name: "minus largest finite",
-        value: -f64::MAX,
+        tried: -f64::MAX,
     },
-    Number {
+    Case {
         name: "infinity",
-        value: f64::INFINITY,
+        tried: f64::INFINITY,
     },
-    Number {
+    Case {
         name: "minus infinity",
-        value: f64::NEG_INFINITY,
+        tried: f64::NEG_INFINITY,
     },
-    Number {
+    Case {
         name: "NaN",
-        value: f64::NAN,
+        tried: f64::NAN,
     },
 ];
 
@@ -58,35 +55,32 @@ static CODES: [u16; 2] = [0, 65_535];
 
 static ENTRIES: [u32; 3] = [0, 1, 4_294_967_295];
 
-fn show_numbers(rt: &HostRuntime, numbers: &[Number]) -> anyhow::Result<()> {
-    for number in numbers {
-        let name = number.name;
-        let ohms = yes_or_no(Measured::Ohms(number.value).fit());
-        let picofarads = yes_or_no(Measured::Picofarads(number.value).fit());
-        println!(rt; "fit, ohms, {name}: {ohms}")?;
-        println!(rt; "fit, picofarads, {name}: {picofarads}")?;
-    }
-    Ok(())
-}
-
-fn show_codes(rt: &HostRuntime) -> anyhow::Result<()> {
-    for code in CODES.iter() {
-        let fit = yes_or_no(Measured::Code(*code).fit());
-        println!(rt; "fit, code, {code}: {fit}")?;
-    }
-    Ok(())
-}
-
-fn show_entries(rt: &HostRuntime) -> anyhow::Result<()> {
-    for entry in ENTRIES.iter() {
-        let fit = yes_or_no(Catalogue(*entry).fit());
-        println!(rt; "fit, catalogue, {entry}: {fit}")?;
-    }
+fn show_fit<N: fmt::Display, L: Label>(
+    rt: &HostRuntime,
+    sort: &str,
+    name: &N,
+    label: &L,
+) -> anyhow::Result<()> {
+    let fit = YES.of(label.fit());
+    println!(rt; "fit, {sort}, {name}: {fit}")?;
     Ok(())
 }
 
 pub fn show(rt: &HostRuntime) -> anyhow::Result<()> {
-    show_numbers(rt, &NUMBERS)?;
-    show_codes(rt)?;
-    show_entries(rt)
+    for case in NUMBERS.iter() {
+        show_fit(rt, "ohms", &case.name, &Measured::Ohms(case.tried))?;
+        show_fit(
+            rt,
+            "picofarads",
+            &case.name,
+            &Measured::Picofarads(case.tried),
+        )?;
+    }
+    for code in CODES.iter() {
+        show_fit(rt, "code", code, &Measured::Code(*code))?;
+    }
+    for entry in ENTRIES.iter() {
+        show_fit(rt, "catalogue", entry, &Catalogue(*entry))?;
+    }
+    Ok(())
 }

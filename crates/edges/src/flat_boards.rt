@@ -2,21 +2,33 @@
 mod cases;
 
 use crate::agreement::answers_as;
-use crate::answers::{Verdict, drawn_or_not};
-use crate::drafts::{Case, Draft, Tables};
+use crate::answers::{DRAWN, Remark, Verdict};
+use crate::cases::Case;
+use crate::drafts::{Draft, Tables};
 use crate::questions::{Question, ask_all};
-use boards::{FlatBoard, check};
 use cases::CASES;
 use circuit::Board;
 
 // A board with an empty net in the middle.
-static SMALL: Draft = Draft::Listed(3, &[2, 2, 5], &[0, 2, 0, 1, 2]);
+static SMALL: Draft = Draft::Listed {
+    parts: 3,
+    ends: &[2, 2, 5],
+    joins: &[0, 2, 0, 1, 2],
+};
 
 // The same with a wrong last end, so that no board is made of it.
-static WRONG: Draft = Draft::Listed(3, &[2, 2, 4], &[0, 2, 0, 1, 2]);
+static WRONG: Draft = Draft::Listed {
+    parts: 3,
+    ends: &[2, 2, 4],
+    joins: &[0, 2, 0, 1, 2],
+};
 
 // A board with as many nets as there can be.
-static LARGE: Draft = Draft::Grid(1, 4_096, 1);
+static LARGE: Draft = Draft::Grid {
+    parts: 1,
+    nets: 4_096,
+    each: 1,
+};
 
 // What the small board is asked, at its edges and just beyond them.
 static QUESTIONS: [Question; 32] = [
@@ -64,27 +76,17 @@ static BARE_QUESTIONS: [Question; 6] = [
     Question::On(0, 0),
 ];
 
-fn show_case(rt: &HostRuntime, case: &Case) -> anyhow::Result<()> {
+fn show_case(rt: &HostRuntime, case: &Case<Draft>) -> anyhow::Result<()> {
     let name = case.name;
-    let tables = Tables::drawn(rt.alloc(), &case.draft)?;
-    let answer = check(&tables.classes, &tables.ends, &tables.joins);
-    let board = FlatBoard::make(&tables.classes, &tables.ends, &tables.joins);
+    let tables = Tables::drawn(rt.alloc(), &case.tried)?;
+    let answer = tables.check_board();
+    let board = tables.board();
     let verdict = Verdict(answer);
     let parts = board.parts();
     let nets = board.nets();
-    print!(rt; "board, {name}: {verdict}, made {parts} parts and {nets} nets")?;
-    if answer.is_ok() {
-        let word = drawn_or_not(answers_as(&board, &tables));
-        print!(rt; ", {word}")?;
-    }
-    println!(rt)?;
-    Ok(())
-}
-
-fn show_cases(rt: &HostRuntime, cases: &[Case]) -> anyhow::Result<()> {
-    for case in cases {
-        show_case(rt, case)?;
-    }
+    let drawn = answers_as(&board, &tables);
+    let remark = Remark(answer.is_ok().then_some(DRAWN.of(drawn)));
+    println!(rt; "board, {name}: {verdict}, made {parts} parts and {nets} nets{remark}")?;
     Ok(())
 }
 
@@ -95,14 +97,13 @@ fn show_questions(
     questions: &[Question],
 ) -> anyhow::Result<()> {
     let tables = Tables::drawn(rt.alloc(), draft)?;
-    let board = FlatBoard::make(&tables.classes, &tables.ends, &tables.joins);
-    ask_all(rt, name, &board, questions)
+    ask_all(rt, name, &tables.board(), questions)
 }
 
 // The lists of some nets, and where they begin.
 fn show_nets(rt: &HostRuntime, name: &str, draft: &Draft, nets: &[u16]) -> anyhow::Result<()> {
     let tables = Tables::drawn(rt.alloc(), draft)?;
-    let board = FlatBoard::make(&tables.classes, &tables.ends, &tables.joins);
+    let board = tables.board();
     for net in nets {
         let list = board.net(*net);
         let place = list.place;
@@ -113,7 +114,9 @@ fn show_nets(rt: &HostRuntime, name: &str, draft: &Draft, nets: &[u16]) -> anyho
 }
 
 pub fn show(rt: &HostRuntime) -> anyhow::Result<()> {
-    show_cases(rt, &CASES)?;
+    for case in CASES.iter() {
+        show_case(rt, case)?;
+    }
     show_questions(rt, "small board", &SMALL, &QUESTIONS)?;
     show_nets(rt, "small board", &SMALL, &[0, 1, 2, 3, 65_535])?;
     show_questions(rt, "refused board", &WRONG, &BARE_QUESTIONS)?;

@@ -2,8 +2,10 @@
 mod cases;
 mod samples;
 
-use crate::answers::{Found, Verdict, kept_or_altered};
-use cases::{CASES, Case, Side};
+use crate::answers::{Found, IN_TURN, KEPT, Verdict};
+use crate::cases::Case;
+use cases::{CASES, Side, Sides};
+use circuit::Refusal;
 use labels::{Catalogue, Label, Measured, label_parts};
 use samples::Sample;
 use std::alloc::Global;
@@ -16,84 +18,75 @@ const FIRST_BOARD_CLASS: u16 = 64;
 
 // The labels of one side, numbered from `first`, which is then the first one's class.
 fn labels_of<L: Sample>(heap: Global, side: &Side, first: u16) -> anyhow::Result<Vec<L>> {
-    let Side(labels, _, unfit) = *side;
-    let mut list = Vec::new(heap);
-    for place in 0..labels {
-        if unfit.contains(&place) {
-            list.push(L::unfit())?;
+    let labels = (0..side.labels).map(|place| {
+        if side.unfit.contains(&place) {
+            L::unfit()
         } else {
-            list.push(L::numbered(first.saturating_add(place)))?;
+            L::numbered(first.saturating_add(place))
         }
-    }
-    Ok(list)
-}
-
-fn marks(heap: Global, room: u16) -> anyhow::Result<Vec<u16>> {
-    let table = vec![in heap; MARK; room as usize]?;
-    Ok(table)
+    });
+    Ok(labels.collect(heap)?)
 }
 
 // Whether the classes count up from `first` for so many labels, and the mark stands in the rest of the table.
 fn in_turn(classes: &[u16], first: u16, labels: u16) -> bool {
-    for (place, class) in (0..u16::MAX).zip(classes) {
-        let wanted = if place < labels {
-            first.saturating_add(place)
+    (0..u16::MAX).zip(classes).all(|(place, class)| {
+        if place < labels {
+            *class == first.saturating_add(place)
         } else {
-            MARK
-        };
-        if *class != wanted {
-            return false;
+            *class == MARK
         }
-    }
-    true
+    })
 }
 
 fn last_class(classes: &[u16], labels: u16) -> Found {
     Found(classes.iter().take(labels as usize).last().copied())
 }
 
-// What the class tables hold after labels were accepted.
-fn show_written(
-    rt: &HostRuntime,
-    case: &Case,
-    pattern_classes: &[u16],
-    board_classes: &[u16],
-) -> anyhow::Result<()> {
-    let Side(pattern, _, _) = case.pattern;
-    let Side(board, _, _) = case.board;
-    let right = in_turn(pattern_classes, 0, pattern)
-        && in_turn(board_classes, FIRST_BOARD_CLASS, board);
-    let word = if right { "in turn" } else { "OUT OF TURN" };
-    let pattern_last = last_class(pattern_classes, pattern);
-    let board_last = last_class(board_classes, board);
-    println!(rt; "accepted, last classes {pattern_last} and {board_last}, {word}")?;
-    Ok(())
+// The class tables of a pattern and of a board.
+#[derive(Debug, Drop)]
+struct Classes {
+    pattern: Vec<u16>,
+    board: Vec<u16>,
 }
 
-fn show_case<L: Sample>(rt: &HostRuntime, sort: &str, case: &Case) -> anyhow::Result<()> {
-    let heap = rt.alloc();
-    let Side(_, pattern_room, _) = case.pattern;
-    let Side(_, board_room, _) = case.board;
-    let pattern: Vec<L> = labels_of(heap, &case.pattern, 0)?;
-    let board: Vec<L> = labels_of(heap, &case.board, FIRST_BOARD_CLASS)?;
-    let mut pattern_classes = marks(heap, pattern_room)?;
-    let mut board_classes = marks(heap, board_room)?;
-    let answer = label_parts(&pattern, &board, &mut pattern_classes, &mut board_classes);
-    let name = case.name;
-    print!(rt; "label_parts, {sort}, {name}: ")?;
-    if answer.is_ok() {
-        return show_written(rt, case, &pattern_classes, &board_classes);
+impl Classes {
+    // Tables with room for so many classes, all marks.
+    fn marked(heap: Global, pattern: usize, board: usize) -> anyhow::Result<Classes> {
+        let pattern = vec![in heap; MARK; pattern]?;
+        let board = vec![in heap; MARK; board]?;
+        Ok(Classes { pattern, board })
     }
-    let verdict = Verdict(answer);
-    let kept = in_turn(&pattern_classes, 0, 0) && in_turn(&board_classes, 0, 0);
-    let word = kept_or_altered(kept);
-    println!(rt; "{verdict}, {word}")?;
-    Ok(())
+
+    fn write<L: Label>(&mut self, pattern: &[L], board: &[L]) -> Result<(), Refusal> {
+        label_parts(pattern, board, &mut self.pattern, &mut self.board)
+    }
+
+    // Whether so many labels of each side have classes in turn, and nothing else is written.
+    fn in_turn(&self, pattern: u16, board: u16) -> bool {
+        in_turn(&self.pattern, 0, pattern) && in_turn(&self.board, FIRST_BOARD_CLASS, board)
+    }
 }
 
-fn show_cases<L: Sample>(rt: &HostRuntime, sort: &str, cases: &[Case]) -> anyhow::Result<()> {
-    for case in cases {
-        show_case::<L>(rt, sort, case)?;
+fn show_case<L: Sample>(rt: &HostRuntime, sort: &str, case: &Case<Sides>) -> anyhow::Result<()> {
+    let heap = rt.alloc();
+    let name = case.name;
+    let Sides { pattern, board } = case.tried;
+    let pattern_labels: Vec<L> = labels_of(heap, &pattern, 0)?;
+    let board_labels: Vec<L> = labels_of(heap, &board, FIRST_BOARD_CLASS)?;
+    let mut classes = Classes::marked(heap, usize::from(pattern.room), usize::from(board.room))?;
+    let answer = classes.write(&pattern_labels, &board_labels);
+    if answer.is_ok() {
+        let pattern_last = last_class(&classes.pattern, pattern.labels);
+        let board_last = last_class(&classes.board, board.labels);
+        let word = IN_TURN.of(classes.in_turn(pattern.labels, board.labels));
+        println!(rt;
+            "label_parts, {sort}, {name}: accepted, last classes {pattern_last} and {board_last}, {word}"
+        )?;
+    } else {
+        let verdict = Verdict(answer);
+        let word = KEPT.of(classes.in_turn(0, 0));
+        println!(rt; "label_parts, {sort}, {name}: {verdict}, {word}")?;
     }
     Ok(())
 }
@@ -105,12 +98,12 @@ fn show_whole<L: Label>(
     pattern: &[L],
     board: &[L],
 ) -> anyhow::Result<()> {
-    let mut pattern_classes = vec![in rt.alloc(); MARK; pattern.len().saturating_add(1)]?;
-    let mut board_classes = vec![in rt.alloc(); MARK; board.len().saturating_add(1)]?;
-    let verdict = Verdict(label_parts(pattern, board, &mut pattern_classes, &mut board_classes));
-    println!(rt;
-        "label_parts, {sort}, whole: {verdict}, {pattern_classes:?} and {board_classes:?}"
-    )?;
+    let pattern_room = pattern.len().saturating_add(1);
+    let board_room = board.len().saturating_add(1);
+    let mut classes = Classes::marked(rt.alloc(), pattern_room, board_room)?;
+    let verdict = Verdict(classes.write(pattern, board));
+    let Classes { pattern, board } = classes;
+    println!(rt; "label_parts, {sort}, whole: {verdict}, {pattern:?} and {board:?}")?;
     Ok(())
 }
 
@@ -142,6 +135,11 @@ fn show_worked(rt: &HostRuntime) -> anyhow::Result<()> {
 
 pub fn show(rt: &HostRuntime) -> anyhow::Result<()> {
     show_worked(rt)?;
-    show_cases::<Measured>(rt, "measured", &CASES)?;
-    show_cases::<Catalogue>(rt, "catalogue", &CASES)
+    for case in CASES.iter() {
+        show_case::<Measured>(rt, "measured", case)?;
+    }
+    for case in CASES.iter() {
+        show_case::<Catalogue>(rt, "catalogue", case)?;
+    }
+    Ok(())
 }

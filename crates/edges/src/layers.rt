@@ -2,28 +2,17 @@
 mod scripts;
 
 use crate::agreement::answers_as;
-use crate::answers::{Verdict, kept_or_altered};
+use crate::answers::{KEPT, Remark, Verdict};
+use crate::cases::Case;
 use crate::drafts::Tables;
-use crate::questions::{Question, ask_all, show_reply};
-use boards::{Blanking, FlatBoard};
-use circuit::{Board, Refusal};
+use crate::questions::{Question, ask_all, reply_of};
+use boards::Blanking;
+use circuit::Board;
 use pattern::Pattern;
 use scripts::{ABOVE, BELOW, LENT, PATTERN, SCRIPTS, SMALL, Script, Step};
 
 // What is asked of a lent board or layer after steps on the layer over it.
 static SIZES: [Question; 3] = [Question::Size(0), Question::Size(1), Question::Size(2)];
-
-// What blanking or showing a net answered, and whether a refusal left the layer as it was.
-fn show_answer(rt: &HostRuntime, answer: Result<(), Refusal>, kept: bool) -> anyhow::Result<()> {
-    let verdict = Verdict(answer);
-    print!(rt; "{verdict}")?;
-    if answer.is_err() {
-        let word = kept_or_altered(kept);
-        print!(rt; ", {word}")?;
-    }
-    println!(rt)?;
-    Ok(())
-}
 
 fn run_step<B: Board>(
     rt: &HostRuntime,
@@ -32,13 +21,20 @@ fn run_step<B: Board>(
     step: Step,
 ) -> anyhow::Result<()> {
     let before = Tables::read(rt.alloc(), layer)?;
-    print!(rt; "{name}, {step}: ")?;
     let answer = match step {
         Step::Blank(net) => layer.blank(net),
         Step::Show(net) => layer.show(net),
-        Step::Ask(question) => return show_reply(rt, layer, question),
+        Step::Ask(question) => {
+            let reply = reply_of(layer, question);
+            println!(rt; "{name}, {step}: {reply}")?;
+            return Ok(());
+        }
     };
-    show_answer(rt, answer, answers_as(layer, &before))
+    let verdict = Verdict(answer);
+    let kept = answers_as(layer, &before);
+    let remark = Remark(answer.is_err().then_some(KEPT.of(kept)));
+    println!(rt; "{name}, {step}: {verdict}{remark}")?;
+    Ok(())
 }
 
 fn run_steps<B: Board>(
@@ -53,24 +49,16 @@ fn run_steps<B: Board>(
     Ok(())
 }
 
-fn run_script(rt: &HostRuntime, script: &Script) -> anyhow::Result<()> {
-    let tables = Tables::drawn(rt.alloc(), &script.board)?;
-    let board = FlatBoard::make(&tables.classes, &tables.ends, &tables.joins);
-    let mut layer = Blanking::over(board);
-    let name = format!(in rt.alloc(); "layer, {}", script.name)?;
-    run_steps(rt, name.as_str(), &mut layer, script.steps)
-}
-
-fn run_scripts(rt: &HostRuntime, scripts: &[Script]) -> anyhow::Result<()> {
-    for script in scripts {
-        run_script(rt, script)?;
-    }
-    Ok(())
+fn run_script(rt: &HostRuntime, case: &Case<Script>) -> anyhow::Result<()> {
+    let tables = Tables::drawn(rt.alloc(), &case.tried.board)?;
+    let mut layer = Blanking::over(tables.board());
+    let name = format!(in rt.alloc(); "layer, {}", case.name)?;
+    run_steps(rt, name.as_str(), &mut layer, case.tried.steps)
 }
 
 fn show_lent(rt: &HostRuntime) -> anyhow::Result<()> {
     let tables = Tables::drawn(rt.alloc(), &SMALL)?;
-    let board = FlatBoard::make(&tables.classes, &tables.ends, &tables.joins);
+    let board = tables.board();
     let mut layer = Blanking::over(&board);
     run_steps(rt, "layer over a lent board", &mut layer, &LENT)?;
     ask_all(rt, "lent board", &board, &SIZES)
@@ -79,7 +67,7 @@ fn show_lent(rt: &HostRuntime) -> anyhow::Result<()> {
 // The layer above owns the one below.
 fn show_owned_layer(rt: &HostRuntime) -> anyhow::Result<()> {
     let tables = Tables::drawn(rt.alloc(), &SMALL)?;
-    let board = FlatBoard::make(&tables.classes, &tables.ends, &tables.joins);
+    let board = tables.board();
     let mut below = Blanking::over(board);
     run_steps(rt, "layer below", &mut below, &BELOW)?;
     let mut above = Blanking::over(below);
@@ -88,7 +76,7 @@ fn show_owned_layer(rt: &HostRuntime) -> anyhow::Result<()> {
 
 fn show_lent_layer(rt: &HostRuntime) -> anyhow::Result<()> {
     let tables = Tables::drawn(rt.alloc(), &SMALL)?;
-    let board = FlatBoard::make(&tables.classes, &tables.ends, &tables.joins);
+    let board = tables.board();
     let mut below = Blanking::over(board);
     run_steps(rt, "lent layer below", &mut below, &BELOW)?;
     let mut above = Blanking::over(&below);
@@ -102,7 +90,9 @@ fn show_over_pattern(rt: &HostRuntime) -> anyhow::Result<()> {
 }
 
 pub fn show(rt: &HostRuntime) -> anyhow::Result<()> {
-    run_scripts(rt, &SCRIPTS)?;
+    for case in SCRIPTS.iter() {
+        run_script(rt, case)?;
+    }
     show_lent(rt)?;
     show_owned_layer(rt)?;
     show_lent_layer(rt)?;

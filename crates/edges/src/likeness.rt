@@ -1,124 +1,98 @@
 // Which labels are alike, asked both ways round.
-use crate::answers::yes_or_no;
+use crate::answers::YES;
+use crate::cases::Case;
 use labels::{Catalogue, Label, Measured};
 
-struct Pair<T> {
-    name: &'static str,
-    one: T,
-    other: T,
-}
-
-static NUMBERS: [Pair<f64>; 12] = [
-    Pair {
+static NUMBERS: [Case<(f64, f64)>; 12] = [
+    Case {
         name: "0 and minus zero",
-        one: 0.0,
-        other: -0.0,
+        tried: (0.0, -0.0),
     },
-    Pair {
+    Case {
         name: "1 and 1",
-        one: 1.0,
-        other: 1.0,
+        tried: (1.0, 1.0),
     },
-    Pair {
+    Case {
         name: "1 and 2",
-        one: 1.0,
-        other: 2.0,
+        tried: (1.0, 2.0),
     },
-    Pair {
+    Case {
         name: "1 and the next above",
-        one: 1.0,
-        other: 1.0000000000000002,
+        tried: (1.0, 1.0000000000000002),
     },
-    Pair {
+    Case {
         name: "1 and minus 1",
-        one: 1.0,
-        other: -1.0,
+        tried: (1.0, -1.0),
     },
-    Pair {
+    Case {
         name: "smallest positive and 0",
-        one: 5e-324,
-        other: 0.0,
+        tried: (5e-324, 0.0),
     },
-    Pair {
+    Case {
         name: "smallest positive and itself",
-        one: 5e-324,
-        other: 5e-324,
+        tried: (5e-324, 5e-324),
     },
-    Pair {
+    Case {
         name: "largest finite and infinity",
-        one: f64::MAX,
-        other: f64::INFINITY,
+        tried: (f64::MAX, f64::INFINITY),
     },
-    Pair {
+    Case {
         name: "infinity and infinity",
-        one: f64::INFINITY,
-        other: f64::INFINITY,
+        tried: (f64::INFINITY, f64::INFINITY),
     },
-    Pair {
+    Case {
         name: "infinity and minus infinity",
-        one: f64::INFINITY,
-        other: f64::NEG_INFINITY,
+        tried: (f64::INFINITY, f64::NEG_INFINITY),
     },
-    Pair {
+    Case {
         name: "NaN and NaN",
-        one: f64::NAN,
-        other: f64::NAN,
+        tried: (f64::NAN, f64::NAN),
     },
-    Pair {
+    Case {
         name: "NaN and 1",
-        one: f64::NAN,
-        other: 1.0,
+        tried: (f64::NAN, 1.0),
     },
 ];
 
-static SORTS: [Pair<Measured>; 6] = [
-    Pair {
+static SORTS: [Case<(Measured, Measured)>; 6] = [
+    Case {
         name: "ohms 1 and picofarads 1",
-        one: Measured::Ohms(1.0),
-        other: Measured::Picofarads(1.0),
+        tried: (Measured::Ohms(1.0), Measured::Picofarads(1.0)),
     },
-    Pair {
+    Case {
         name: "ohms 1 and code 1",
-        one: Measured::Ohms(1.0),
-        other: Measured::Code(1),
+        tried: (Measured::Ohms(1.0), Measured::Code(1)),
     },
-    Pair {
+    Case {
         name: "picofarads 1 and code 1",
-        one: Measured::Picofarads(1.0),
-        other: Measured::Code(1),
+        tried: (Measured::Picofarads(1.0), Measured::Code(1)),
     },
-    Pair {
+    Case {
         name: "code 7 and code 7",
-        one: Measured::Code(7),
-        other: Measured::Code(7),
+        tried: (Measured::Code(7), Measured::Code(7)),
     },
-    Pair {
+    Case {
         name: "code 7 and code 8",
-        one: Measured::Code(7),
-        other: Measured::Code(8),
+        tried: (Measured::Code(7), Measured::Code(8)),
     },
-    Pair {
+    Case {
         name: "code 0 and code 65535",
-        one: Measured::Code(0),
-        other: Measured::Code(65_535),
+        tried: (Measured::Code(0), Measured::Code(65_535)),
     },
 ];
 
-static ENTRIES: [Pair<Catalogue>; 3] = [
-    Pair {
+static ENTRIES: [Case<(Catalogue, Catalogue)>; 3] = [
+    Case {
         name: "5 and 5",
-        one: Catalogue(5),
-        other: Catalogue(5),
+        tried: (Catalogue(5), Catalogue(5)),
     },
-    Pair {
+    Case {
         name: "5 and 6",
-        one: Catalogue(5),
-        other: Catalogue(6),
+        tried: (Catalogue(5), Catalogue(6)),
     },
-    Pair {
+    Case {
         name: "1 and 4294967295",
-        one: Catalogue(1),
-        other: Catalogue(4_294_967_295),
+        tried: (Catalogue(1), Catalogue(4_294_967_295)),
     },
 ];
 
@@ -129,33 +103,46 @@ fn show_pair<L: Label>(
     one: &L,
     other: &L,
 ) -> anyhow::Result<()> {
-    let there = yes_or_no(one.alike(other));
-    let back = yes_or_no(other.alike(one));
+    let there = YES.of(one.alike(other));
+    let back = YES.of(other.alike(one));
     println!(rt; "alike, {sort}, {name}: {there}, turned round {back}")?;
     Ok(())
 }
 
-fn show_pairs<L: Label>(rt: &HostRuntime, sort: &str, pairs: &[Pair<L>]) -> anyhow::Result<()> {
-    for pair in pairs {
-        show_pair(rt, sort, pair.name, &pair.one, &pair.other)?;
+fn show_pairs<L: Label>(
+    rt: &HostRuntime,
+    sort: &str,
+    cases: &[Case<(L, L)>],
+) -> anyhow::Result<()> {
+    for case in cases {
+        show_pair(rt, sort, case.name, &case.tried.0, &case.tried.1)?;
     }
     Ok(())
 }
 
-fn show_numbers(rt: &HostRuntime, pairs: &[Pair<f64>]) -> anyhow::Result<()> {
-    for pair in pairs {
-        let ohms = Measured::Ohms(pair.one);
-        let other_ohms = Measured::Ohms(pair.other);
-        show_pair(rt, "ohms", pair.name, &ohms, &other_ohms)?;
-        let picofarads = Measured::Picofarads(pair.one);
-        let other_picofarads = Measured::Picofarads(pair.other);
-        show_pair(rt, "picofarads", pair.name, &picofarads, &other_picofarads)?;
-    }
-    Ok(())
+// Two numbers as ohms, and as picofarads.
+fn show_numbers(rt: &HostRuntime, case: &Case<(f64, f64)>) -> anyhow::Result<()> {
+    let (one, other) = case.tried;
+    show_pair(
+        rt,
+        "ohms",
+        case.name,
+        &Measured::Ohms(one),
+        &Measured::Ohms(other),
+    )?;
+    show_pair(
+        rt,
+        "picofarads",
+        case.name,
+        &Measured::Picofarads(one),
+        &Measured::Picofarads(other),
+    )
 }
 
 pub fn show(rt: &HostRuntime) -> anyhow::Result<()> {
-    show_numbers(rt, &NUMBERS)?;
+    for case in NUMBERS.iter() {
+        show_numbers(rt, case)?;
+    }
     show_pairs(rt, "measured", &SORTS)?;
     show_pairs(rt, "catalogue", &ENTRIES)
 }

@@ -3,6 +3,7 @@
 
 mod agreement;
 mod answers;
+mod cases;
 mod drafts;
 mod fitness;
 mod flat_boards;

@@ -2,14 +2,19 @@
 mod cases;
 
 use crate::agreement::answers_as;
-use crate::answers::{Verdict, drawn_or_not, kept_or_altered};
-use crate::drafts::{Case, Draft, Tables};
+use crate::answers::{DRAWN, KEPT, Verdict};
+use crate::cases::Case;
+use crate::drafts::{Draft, Tables};
 use crate::questions::{Question, ask_all};
 use cases::CASES;
-use pattern::{Pattern, check};
+use pattern::Pattern;
 
 // The pattern that each case is made over.
-static BEFORE: Draft = Draft::Listed(3, &[2, 4], &[0, 2, 1, 2]);
+static BEFORE: Draft = Draft::Listed {
+    parts: 3,
+    ends: &[2, 4],
+    joins: &[0, 2, 1, 2],
+};
 
 // What the smallest pattern is asked, at its edges and just beyond them.
 static QUESTIONS: [Question; 12] = [
@@ -27,16 +32,16 @@ static QUESTIONS: [Question; 12] = [
     Question::On(0, 1),
 ];
 
-fn show_case(rt: &HostRuntime, case: &Case, before: &Tables) -> anyhow::Result<()> {
+fn show_case(rt: &HostRuntime, case: &Case<Draft>, before: &Tables) -> anyhow::Result<()> {
     let name = case.name;
-    let tables = Tables::drawn(rt.alloc(), &case.draft)?;
+    let tables = Tables::drawn(rt.alloc(), &case.tried)?;
     let mut pattern = Pattern::smallest();
-    let _ = pattern.make(&before.classes, &before.ends, &before.joins);
-    let checked = check(&tables.classes, &tables.ends, &tables.joins);
-    let made = pattern.make(&tables.classes, &tables.ends, &tables.joins);
+    let _ = before.make_pattern(&mut pattern);
+    let checked = tables.check_pattern();
+    let made = tables.make_pattern(&mut pattern);
     let word = match made {
-        Ok(()) => drawn_or_not(answers_as(&pattern, &tables)),
-        Err(_) => kept_or_altered(answers_as(&pattern, before)),
+        Ok(()) => DRAWN.of(answers_as(&pattern, &tables)),
+        Err(_) => KEPT.of(answers_as(&pattern, before)),
     };
     let verdict = Verdict(checked);
     if checked == made {
@@ -47,15 +52,10 @@ fn show_case(rt: &HostRuntime, case: &Case, before: &Tables) -> anyhow::Result<(
     Ok(())
 }
 
-fn show_cases(rt: &HostRuntime, cases: &[Case]) -> anyhow::Result<()> {
+pub fn show(rt: &HostRuntime) -> anyhow::Result<()> {
     let before = Tables::drawn(rt.alloc(), &BEFORE)?;
-    for case in cases {
+    for case in CASES.iter() {
         show_case(rt, case, &before)?;
     }
-    Ok(())
-}
-
-pub fn show(rt: &HostRuntime) -> anyhow::Result<()> {
-    show_cases(rt, &CASES)?;
     ask_all(rt, "smallest pattern", &Pattern::smallest(), &QUESTIONS)
 }

@@ -1,9 +1,9 @@
 // The questions that a board answers.
-use crate::answers::{Found, yes_or_no};
+use crate::answers::{Found, YES};
 use circuit::Board;
 use std::fmt;
 
-#[derive(Clone, Copy)]
+#[derive(Clone, Copy, Debug, PartialEq, Eq)]
 pub enum Question {
     Parts,
     Nets,
@@ -28,8 +28,8 @@ impl fmt::Display for Question {
     }
 }
 
-#[derive(Clone, Copy)]
-enum Reply {
+#[derive(Clone, Copy, Debug, PartialEq, Eq)]
+pub enum Reply {
     Number(Found),
     Truth(bool),
 }
@@ -38,12 +38,12 @@ impl fmt::Display for Reply {
     fn fmt<W: fmt::Write>(&self, f: &mut fmt::Formatter<W>) -> fmt::Result {
         match *self {
             Reply::Number(found) => write!(f, "{found}"),
-            Reply::Truth(truth) => f.write_str(yes_or_no(truth)),
+            Reply::Truth(truth) => f.write_str(YES.of(truth)),
         }
     }
 }
 
-fn reply_of<B: Board>(board: &B, question: Question) -> Reply {
+pub fn reply_of<B: Board>(board: &B, question: Question) -> Reply {
     match question {
         Question::Parts => Reply::Number(Found(Some(board.parts()))),
         Question::Nets => Reply::Number(Found(Some(board.nets()))),
@@ -54,12 +54,6 @@ fn reply_of<B: Board>(board: &B, question: Question) -> Reply {
     }
 }
 
-pub fn show_reply<B: Board>(rt: &HostRuntime, board: &B, question: Question) -> anyhow::Result<()> {
-    let reply = reply_of(board, question);
-    println!(rt; "{reply}")?;
-    Ok(())
-}
-
 pub fn ask_all<B: Board>(
     rt: &HostRuntime,
     name: &str,
@@ -67,8 +61,8 @@ pub fn ask_all<B: Board>(
     questions: &[Question],
 ) -> anyhow::Result<()> {
     for question in questions {
-        print!(rt; "{name}, {question}: ")?;
-        show_reply(rt, board, *question)?;
+        let reply = reply_of(board, *question);
+        println!(rt; "{name}, {question}: {reply}")?;
     }
     Ok(())
 }

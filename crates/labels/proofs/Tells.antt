@@ -1,10 +1,10 @@
 -- That labels of one class are alike, and alike labels of one class.
-use Rattle.std.proofs.Common.{◌≡◌, ℕ, zero, suc, ◌+◌, ◌<◌, ◌≤◌, Bool, true, false, cond, ◌||◌, T, ltb, ◌⊎◌, ◌↔◌, List, [], ◌∷◌, map, length, get_or, Ok, Result, sym, refl, ap, ◌∙◌, subst, inl, inr, arith, ltb-false, ltb-true}
+use Rattle.std.proofs.Common.{◌≡◌, ℕ, zero, suc, ◌+◌, ◌<◌, ◌≤◌, Bool, true, false, cond, T, ltb, ◌⊎◌, ◌↔◌, List, [], ◌∷◌, map, length, get_or, Ok, sym, refl, ap, ◌∙◌, subst, inl, inr, arith, ltb-false, ltb-true}
+use Rattle.std.proofs.lemmas.Float.{T_from_true}
 use Rattle.labels.specs.Classes.{first, unfit, class}
-use Rattle.circuit.specs.declared.refusal.Reason.{Reason}
-use Rattle.circuit.specs.declared.refusal.Reason.TheVariants.{LabelCount, ClassRoom, UnfitLabel}
-use Rattle.circuit.specs.declared.refusal.Refusal.{Refusal}
-use Rattle.labels.specs.Refusals.{refused}
+use Rattle.std.proofs.lemmas.Bool.Decides.{nat_tests}
+use Rattle.labels.specs.Refusals.{verdict}
+use Rattle.labels.specs.Likeness.{true_from}
 use Rattle.labels.specs.Alike.{In, Tells, alike_to, alike_at, Wrote}
 
 both : (a b : Bool) → (T a → T b) → (T b → T a) → a ≡ b
@@ -18,7 +18,7 @@ module _ {L : Type 0} (proper : L → Bool) where
   Fits [] = Unit {0}
   Fits (x ∷ xs) = T (proper x) × Fits xs
 
-  pub fits_from : (xs : List L) → length xs ≤ unfit proper xs → Fits xs
+  fits_from : (xs : List L) → length xs ≤ unfit proper xs → Fits xs
   fits_from [] h = tt
   fits_from (x ∷ xs) h = go (proper x) h (fits_from xs)
     where
@@ -26,7 +26,7 @@ module _ {L : Type 0} (proper : L → Bool) where
       go true k rest = (tt, rest (omega arith))
       go false k rest = absurd (omega arith)
 
-  pub fit_in : (xs : List L) (x : L) → Fits xs → In x xs → T (proper x)
+  fit_in : (xs : List L) (x : L) → Fits xs → In x xs → T (proper x)
   fit_in [] x f h = absurd h
   fit_in (y ∷ ys) x f (inl e) = subst (λ z. T (proper z)) (sym e) f.0
   fit_in (y ∷ ys) x f (inr h) = fit_in ys x f.1 h
@@ -88,7 +88,7 @@ module _ {L : Type 0} (proper : L → Bool) (same : L → L → Bool)
         go false true p q k = let l = ltb-true _ _ q in absurd (omega arith)
         go false false p q k = meet x y px py (first_meets bs x y fb (omega arith) (on_board x px hx (ltb-false _ _ p)))
 
-    pub tells : Tells same ps bs
+    tells : Tells same ps bs
     tells x y hx hy =
         let px = fit_among x hx in
         let py = fit_among y hy in (
@@ -108,13 +108,6 @@ find_at same f [] bs u v l = absurd (omega arith)
 find_at same f (x ∷ xs) bs zero v l = (x, inl refl, refl, refl)
 find_at same f (x ∷ xs) bs (suc u) v l = let (z, i, e, a) = find_at same f xs bs u v (omega arith) in (z, inr i, e, a)
 
-true_T : (b : Bool) → b ≡ true → T b
-true_T b e = subst T (sym e) tt
-
-T_true : (b : Bool) → T b → b ≡ true
-T_true true t = refl
-T_true false t = absurd t
-
 pub agree_at : {L : Type 0} (same : L → L → Bool) (ps bs : List L) → Tells same ps bs → (u v : ℕ) → u < length ps → v < length bs
     → (get_or (map (class same ps bs) ps) u 0 ≡ get_or (map (class same ps bs) bs) v 0) ↔ (alike_at same ps bs u v ≡ true)
 agree_at same ps bs tells u v l k =
@@ -122,16 +115,11 @@ agree_at same ps bs tells u v l k =
     let (x, x-in, x-is, a) = find_at same f ps bs u v l in
     let (y, y-in, y-is, d) = find_to same f x bs v k in
     let (one, other) = tells x y (inl x-in) (inr y-in) in
-    ((λ e. a ∙ d ∙ T_true (same x y) (one (sym x-is ∙ e ∙ y-is))), (λ e. x-is ∙ other (true_T (same x y) (sym d ∙ sym a ∙ e)) ∙ sym y-is))
+    ((λ e. a ∙ d ∙ true_from (same x y) (one (sym x-is ∙ e ∙ y-is))), (λ e. x-is ∙ other (T_from_true (same x y) (sym d ∙ sym a ∙ e)) ∙ sym y-is))
 
--- a chain of refusals that ends in Ok passed each test
-passed : (t : Bool) (why : Reason) (p : ℕ) (rest : Result (Unit {0}) Refusal) → cond t (refused why p) rest ≡ Ok tt → (t ≡ false) × (rest ≡ Ok tt)
-passed true why p rest e = let z : ◌≡◌ {A = ℕ} 0 1 = cc in absurd (omega arith)
-passed false why p rest e = (refl, e)
-
-neither : (s t : Bool) → (s || t) ≡ false → (s ≡ false) × (t ≡ false)
-neither true t e = let z : ◌≡◌ {A = ℕ} 0 1 = cc in absurd (omega arith)
-neither false t e = (refl, e)
+-- a verdict that refuses nothing passed each test
+passed : {L : Type 0} (proper : L → Bool) (ps bs : List L) (m n : ℕ) → verdict proper ps bs m n ≡ Ok tt → (length ps ≤ 64) × (length ps ≤ unfit proper ps) × (length bs ≤ unfit proper bs)
+passed proper ps bs m n e = (grind (arith, nat_tests), grind (arith, nat_tests), grind (arith, nat_tests))
 
 pub wrote_tells : {L : Type 0} (proper : L → Bool) (same : L → L → Bool)
     → ((x : L) → T (proper x) → T (same x x))
@@ -139,10 +127,5 @@ pub wrote_tells : {L : Type 0} (proper : L → Bool) (same : L → L → Bool)
     → ((x y z : L) → T (proper x) → T (proper y) → T (proper z) → T (same x y) → T (same y z) → T (same x z))
     → (ps bs : List L) (pc bc : List ℕ) → Wrote proper same ps bs pc bc → Tells same ps bs
 wrote_tells proper same itself turned chained ps bs pc bc w =
-    let (few, a) = passed (ltb 64 (length ps) || ltb 4096 (length bs)) LabelCount 0 _ w.answered in
-    let (room, b) = passed (ltb w.room.0 (length ps) || ltb w.room.1 (length bs)) ClassRoom 0 _ a in
-    let (fp, d) = passed (ltb (unfit proper ps) (length ps)) UnfitLabel (unfit proper ps) _ b in
-    let (fb, e) = passed (ltb (unfit proper bs) (length bs)) UnfitLabel (64 + unfit proper bs) _ d in
-    let (small, _) = neither (ltb 64 (length ps)) (ltb 4096 (length bs)) few in
-    tells proper same itself turned chained ps bs (ltb-false _ _ small)
-    (fits_from proper ps (ltb-false _ _ fp)) (fits_from proper bs (ltb-false _ _ fb))
+    let (few, fp, fb) = passed proper ps bs w.room.0 w.room.1 w.answered in
+    tells proper same itself turned chained ps bs few (fits_from proper ps fp) (fits_from proper bs fb)

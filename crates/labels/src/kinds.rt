@@ -1,9 +1,7 @@
 // What a label kind answers, and the two kinds.
 ghost use Rattle.std.specs.Prelude.{◌≡◌, Bool, T};
 ghost use Rattle.labels.specs.Kinds.{usable_number, measured_fit, measured_alike, catalogue_fit, catalogue_alike};
-ghost use Rattle.labels.specs.Floats.{eq_refl, eq_sym, eq_trans, eqb_trans};
 ghost use Rattle.std.proofs.Common.{rules};
-ghost use Rattle.labels.specs.declared.kinds.Measured.TheVariants.{Ohms, Picofarads, Code};
 
 // Among fit labels likeness is an equivalence.
 pub trait Label {
@@ -40,65 +38,27 @@ fn usable(x: f64) -> bool
 }
 
 impl Label for Measured {
+    ghost use Rattle.labels.specs.Likeness.{measured_itself, measured_turned, measured_chained};
+
     ghost proper = { measured_fit };
 
     ghost same = { measured_alike };
 
-    ghost itself = { Prim.search (rules, eq_refl) };
+    ghost itself = { measured_itself };
 
-    ghost turned = { Prim.search (rules, eq_sym) };
+    ghost turned = { measured_turned };
 
-    ghost chained = { elim [
-      | Ohms x ↦
-          elim [
-            | Ohms y ↦
-                elim [
-                  | Ohms z ↦ λ fx fy fz h k. eq_trans x y z h k
-                  | Picofarads z ↦ λ fx fy fz h k. absurd k
-                  | Code z ↦ λ fx fy fz h k. absurd k
-                ]
-            | Picofarads y ↦ λ z fx fy fz h k. absurd h
-            | Code y ↦ λ z fx fy fz h k. absurd h
-          ]
-      | Picofarads x ↦
-          elim [
-            | Ohms y ↦ λ z fx fy fz h k. absurd h
-            | Picofarads y ↦
-                elim [
-                  | Ohms z ↦ λ fx fy fz h k. absurd k
-                  | Picofarads z ↦ λ fx fy fz h k. eq_trans x y z h k
-                  | Code z ↦ λ fx fy fz h k. absurd k
-                ]
-            | Code y ↦ λ z fx fy fz h k. absurd h
-          ]
-      | Code x ↦
-          elim [
-            | Ohms y ↦ λ z fx fy fz h k. absurd h
-            | Picofarads y ↦ λ z fx fy fz h k. absurd h
-            | Code y ↦
-                elim [
-                  | Ohms z ↦ λ fx fy fz h k. absurd k
-                  | Picofarads z ↦ λ fx fy fz h k. absurd k
-                  | Code z ↦ λ fx fy fz h k. eqb_trans x y z h k
-                ]
-          ]
-    ] };
+    ghost chained = { measured_chained };
 
     fn fit(&self) -> bool {
-        match self {
-            Measured::Ohms(x) => usable(*x),
-            Measured::Picofarads(x) => usable(*x),
+        match *self {
+            Measured::Ohms(x) | Measured::Picofarads(x) => usable(x),
             Measured::Code(_) => true,
         }
     }
 
     fn alike(&self, other: &Measured) -> bool {
-        match (self, other) {
-            (Measured::Ohms(x), Measured::Ohms(y)) => *x == *y,
-            (Measured::Picofarads(x), Measured::Picofarads(y)) => *x == *y,
-            (Measured::Code(x), Measured::Code(y)) => *x == *y,
-            _ => false,
-        }
+        self == other
     }
 }
 
@@ -122,6 +82,6 @@ impl Label for Catalogue {
     }
 
     fn alike(&self, other: &Catalogue) -> bool {
-        self.0 == other.0
+        self == other
     }
 }

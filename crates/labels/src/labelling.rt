@@ -1,8 +1,9 @@
 // A class for each part, from the labels of a pattern and a board.
-ghost use Rattle.std.specs.Prelude.{◌≡◌, ◌≤◌, true, length, take, is_ok, if◌then◌else◌};
+ghost use Rattle.std.specs.Prelude.{◌≡◌, ◌+◌, ◌^◌, ◌<◌, ◌≤◌, true, length, take, not, position, Ok, is_ok, nat_lt, if◌then◌else◌};
 ghost use Rattle.labels.specs.Alike.{Tells, Wrote};
 ghost use Rattle.labels.specs.Classes.{first, unfit, class, classed};
-ghost use Rattle.labels.specs.Refusals.{verdict};
+ghost use Rattle.labels.specs.Refusals.{refused, verdict};
+ghost use Rattle.circuit.specs.declared.refusal.Reason.TheVariants.{UnfitLabel};
 
 use crate::kinds::Label;
 use circuit::{Reason, Refusal};
@@ -11,51 +12,65 @@ const PATTERN_LABELS: usize = 64;
 
 const BOARD_LABELS: usize = 4096;
 
-// The place of the first label alike to `own`, or the number of labels.
-fn first_alike<L: Label>(labels: &[L], own: &L) -> usize
-    ensures value { result ≡ first L.same labels.now own.now }
-    ensures bound { result ≤ length labels.now }
+// The place of the first label alike to `own`.
+fn first_alike<L: Label>(labels: &[L], own: &L) -> Option<usize>
+    ensures { result ≡ position (λ x. L.same x own.now) labels.now }
 {
-    for (i, x) in labels.iter().enumerate() {
-        if x.alike(own) {
-            return i;
+    labels.iter().position(|x| x.alike(own))
+}
+
+// The place of the first label that is not fit.
+fn first_unfit<L: Label>(labels: &[L]) -> Option<usize>
+    ensures { result ≡ position (λ x. not (L.proper x)) labels.now }
+{
+    labels.iter().position(|x| !x.fit())
+}
+
+// Refuses the first label that is not fit, at its place counted on from `start`.
+#[tactic(auto, using(crate::proofs::Firsts::unfit_placed))]
+fn check_fit<L: Label>(labels: &[L], start: usize) -> Result<(), Refusal>
+    requires { start + length labels.now < 2 ^ 64 }
+    ensures { result ≡ (if nat_lt (unfit L.proper labels.now) (length labels.now) then refused UnfitLabel (start + unfit L.proper labels.now) else Ok tt) }
+{
+    match first_unfit(labels) {
+        Some(place) => Err(Refusal {
+            reason: Reason::UnfitLabel,
+            place: start + place,
+        }),
+        None => Ok(()),
+    }
+}
+
+// The labels of a pattern and of a board, few enough for every class to fit 16 bits.
+#[derive(Drop)]
+struct Sides<'a, L> {
+    pattern: &'a [L],
+    board: &'a [L],
+    ghost few_pattern: { length pattern.now ≤ 64 },
+    ghost few_board: { length board.now ≤ 4096 },
+}
+
+impl<'a, L: Label> Sides<'a, L> {
+    // Pattern labels come first; a board label's place is counted past every pattern label.
+    #[tactic(auto, using(crate::proofs::Firsts::first_placed))]
+    fn class_of(&self, own: &L) -> u16
+        ensures { result ≡ class L.same self.now.pattern.now self.now.board.now own.now }
+    {
+        if let Some(place) = first_alike(self.pattern, own) {
+            return place as u16;
         }
+        let place = first_alike(self.board, own).unwrap_or(self.board.len());
+        (PATTERN_LABELS + place) as u16
     }
-    labels.len()
-}
 
-// The place of the first label that is not fit, or the number of labels.
-fn first_unfit<L: Label>(labels: &[L]) -> usize
-    ensures value { result ≡ unfit L.proper labels.now }
-    ensures bound { result ≤ length labels.now }
-{
-    for (at, x) in labels.iter().enumerate() {
-        if !x.fit() {
-            return at;
+    fn write(&self, labels: &[L], classes: &mut [u16])
+        requires { length labels.now ≤ length classes.old }
+        ensures { classes.new ≡ classed L.same self.now.pattern.now self.now.board.now labels.now classes.old }
+    {
+        // By index: what is written through `classes.iter_mut().zip(labels)` the prover does not know after the loop.
+        for (i, label) in labels.iter().enumerate() {
+            classes[i] = self.class_of(label);
         }
-    }
-    labels.len()
-}
-
-// Pattern labels come first; a board label's place is counted from 64, past every pattern label.
-fn class_of<L: Label>(pattern: &[L], board: &[L], own: &L) -> u16
-    requires { (length pattern.now ≤ 64) × (length board.now ≤ 4096) }
-    ensures { result ≡ class L.same pattern.now board.now own.now }
-{
-    let place = first_alike(pattern, own);
-    if place < pattern.len() {
-        place as u16
-    } else {
-        (64 + first_alike(board, own)) as u16
-    }
-}
-
-fn write_classes<L: Label>(pattern: &[L], board: &[L], labels: &[L], classes: &mut [u16])
-    requires { (length pattern.now ≤ 64) × (length board.now ≤ 4096) × (length labels.now ≤ length classes.old) }
-    ensures { classes.new ≡ classed L.same pattern.now board.now labels.now classes.old }
-{
-    for (i, x) in labels.iter().enumerate() {
-        classes[i] = class_of(pattern, board, x);
     }
 }
 
@@ -85,21 +100,10 @@ pub fn label_parts<L: Label>(
             place: 0,
         });
     }
-    let bad = first_unfit(pattern);
-    if bad < pattern.len() {
-        return Err(Refusal {
-            reason: Reason::UnfitLabel,
-            place: bad,
-        });
-    }
-    let wrong = first_unfit(board);
-    if wrong < board.len() {
-        return Err(Refusal {
-            reason: Reason::UnfitLabel,
-            place: 64 + wrong,
-        });
-    }
-    write_classes(pattern, board, pattern, pattern_classes);
-    write_classes(pattern, board, board, board_classes);
+    check_fit(pattern, 0)?;
+    check_fit(board, PATTERN_LABELS)?;
+    let sides = Sides { pattern, board };
+    sides.write(pattern, pattern_classes);
+    sides.write(board, board_classes);
     Ok(())
 }

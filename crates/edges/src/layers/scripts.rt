@@ -1,9 +1,10 @@
 // What is done to a layer, and asked of it.
+use crate::cases::Case;
 use crate::drafts::Draft;
 use crate::questions::Question;
 use std::fmt;
 
-#[derive(Clone, Copy)]
+#[derive(Clone, Copy, Debug, PartialEq, Eq)]
 pub enum Step {
     Blank(u16),
     Show(u16),
@@ -21,179 +22,217 @@ impl fmt::Display for Step {
 }
 
 // Steps on a fresh layer over a flat board.
+#[derive(Clone, Copy, Debug, PartialEq, Eq)]
 pub struct Script {
-    pub name: &'static str,
     pub board: Draft,
     pub steps: &'static [Step],
 }
 
 // Three nets: parts 0 and 2, part 1, and all three parts.
-pub const SMALL: Draft = Draft::Listed(3, &[2, 3, 6], &[0, 2, 1, 0, 1, 2]);
+pub const SMALL: Draft = Draft::Listed {
+    parts: 3,
+    ends: &[2, 3, 6],
+    joins: &[0, 2, 1, 0, 1, 2],
+};
 
-pub static SCRIPTS: [Script; 11] = [
-    Script {
+pub static SCRIPTS: [Case<Script>; 11] = [
+    Case {
         name: "fresh",
-        board: SMALL,
-        steps: &[
-            Step::Ask(Question::Parts),
-            Step::Ask(Question::Nets),
-            Step::Ask(Question::Class(0)),
-            Step::Ask(Question::Class(2)),
-            Step::Ask(Question::Class(3)),
-            Step::Ask(Question::Size(0)),
-            Step::Ask(Question::Size(1)),
-            Step::Ask(Question::Size(2)),
-            Step::Ask(Question::Size(3)),
-            Step::Ask(Question::Part(0, 0)),
-            Step::Ask(Question::Part(2, 2)),
-            Step::Ask(Question::Part(2, 3)),
-            Step::Ask(Question::On(0, 0)),
-            Step::Ask(Question::On(1, 0)),
-            Step::Ask(Question::On(2, 2)),
-        ],
+        tried: Script {
+            board: SMALL,
+            steps: &[
+                Step::Ask(Question::Parts),
+                Step::Ask(Question::Nets),
+                Step::Ask(Question::Class(0)),
+                Step::Ask(Question::Class(2)),
+                Step::Ask(Question::Class(3)),
+                Step::Ask(Question::Size(0)),
+                Step::Ask(Question::Size(1)),
+                Step::Ask(Question::Size(2)),
+                Step::Ask(Question::Size(3)),
+                Step::Ask(Question::Part(0, 0)),
+                Step::Ask(Question::Part(2, 2)),
+                Step::Ask(Question::Part(2, 3)),
+                Step::Ask(Question::On(0, 0)),
+                Step::Ask(Question::On(1, 0)),
+                Step::Ask(Question::On(2, 2)),
+            ],
+        },
     },
-    Script {
+    Case {
         name: "last net",
-        board: SMALL,
-        steps: &[
-            Step::Blank(2),
-            Step::Ask(Question::Size(2)),
-            Step::Ask(Question::Part(2, 0)),
-            Step::Ask(Question::On(0, 2)),
-            Step::Ask(Question::On(2, 2)),
-            Step::Ask(Question::Size(1)),
-            Step::Ask(Question::Part(1, 0)),
-            Step::Ask(Question::On(1, 1)),
-            Step::Ask(Question::Parts),
-            Step::Ask(Question::Nets),
-            Step::Ask(Question::Class(2)),
-            Step::Ask(Question::Class(3)),
-        ],
+        tried: Script {
+            board: SMALL,
+            steps: &[
+                Step::Blank(2),
+                Step::Ask(Question::Size(2)),
+                Step::Ask(Question::Part(2, 0)),
+                Step::Ask(Question::On(0, 2)),
+                Step::Ask(Question::On(2, 2)),
+                Step::Ask(Question::Size(1)),
+                Step::Ask(Question::Part(1, 0)),
+                Step::Ask(Question::On(1, 1)),
+                Step::Ask(Question::Parts),
+                Step::Ask(Question::Nets),
+                Step::Ask(Question::Class(2)),
+                Step::Ask(Question::Class(3)),
+            ],
+        },
     },
-    Script {
+    Case {
         name: "middle net",
-        board: SMALL,
-        steps: &[
-            Step::Blank(1),
-            Step::Ask(Question::Size(0)),
-            Step::Ask(Question::Part(0, 1)),
-            Step::Ask(Question::On(2, 0)),
-            Step::Ask(Question::Size(1)),
-            Step::Ask(Question::Part(1, 0)),
-            Step::Ask(Question::On(1, 1)),
-            Step::Ask(Question::Size(2)),
-            Step::Ask(Question::Part(2, 0)),
-            Step::Ask(Question::On(1, 2)),
-            Step::Ask(Question::Class(1)),
-        ],
+        tried: Script {
+            board: SMALL,
+            steps: &[
+                Step::Blank(1),
+                Step::Ask(Question::Size(0)),
+                Step::Ask(Question::Part(0, 1)),
+                Step::Ask(Question::On(2, 0)),
+                Step::Ask(Question::Size(1)),
+                Step::Ask(Question::Part(1, 0)),
+                Step::Ask(Question::On(1, 1)),
+                Step::Ask(Question::Size(2)),
+                Step::Ask(Question::Part(2, 0)),
+                Step::Ask(Question::On(1, 2)),
+                Step::Ask(Question::Class(1)),
+            ],
+        },
     },
-    Script {
+    Case {
         name: "every net",
-        board: SMALL,
-        steps: &[
-            Step::Blank(0),
-            Step::Blank(1),
-            Step::Blank(2),
-            Step::Ask(Question::Size(0)),
-            Step::Ask(Question::Size(1)),
-            Step::Ask(Question::Size(2)),
-            Step::Ask(Question::Part(0, 0)),
-            Step::Ask(Question::On(0, 0)),
-            Step::Ask(Question::Parts),
-            Step::Ask(Question::Nets),
-            Step::Ask(Question::Class(0)),
-        ],
+        tried: Script {
+            board: SMALL,
+            steps: &[
+                Step::Blank(0),
+                Step::Blank(1),
+                Step::Blank(2),
+                Step::Ask(Question::Size(0)),
+                Step::Ask(Question::Size(1)),
+                Step::Ask(Question::Size(2)),
+                Step::Ask(Question::Part(0, 0)),
+                Step::Ask(Question::On(0, 0)),
+                Step::Ask(Question::Parts),
+                Step::Ask(Question::Nets),
+                Step::Ask(Question::Class(0)),
+            ],
+        },
     },
-    Script {
+    Case {
         name: "off the board",
-        board: SMALL,
-        steps: &[
-            Step::Blank(1),
-            Step::Blank(3),
-            Step::Blank(65_535),
-            Step::Show(3),
-            Step::Show(65_535),
-            Step::Ask(Question::Size(0)),
-            Step::Ask(Question::Size(1)),
-            Step::Ask(Question::Size(2)),
-            Step::Ask(Question::Size(3)),
-            Step::Ask(Question::Nets),
-        ],
+        tried: Script {
+            board: SMALL,
+            steps: &[
+                Step::Blank(1),
+                Step::Blank(3),
+                Step::Blank(65_535),
+                Step::Show(3),
+                Step::Show(65_535),
+                Step::Ask(Question::Size(0)),
+                Step::Ask(Question::Size(1)),
+                Step::Ask(Question::Size(2)),
+                Step::Ask(Question::Size(3)),
+                Step::Ask(Question::Nets),
+            ],
+        },
     },
-    Script {
+    Case {
         name: "blanked twice",
-        board: SMALL,
-        steps: &[
-            Step::Blank(1),
-            Step::Blank(1),
-            Step::Ask(Question::Size(1)),
-            Step::Show(1),
-            Step::Ask(Question::Size(1)),
-            Step::Ask(Question::Part(1, 0)),
-            Step::Ask(Question::On(1, 1)),
-        ],
+        tried: Script {
+            board: SMALL,
+            steps: &[
+                Step::Blank(1),
+                Step::Blank(1),
+                Step::Ask(Question::Size(1)),
+                Step::Show(1),
+                Step::Ask(Question::Size(1)),
+                Step::Ask(Question::Part(1, 0)),
+                Step::Ask(Question::On(1, 1)),
+            ],
+        },
     },
-    Script {
+    Case {
         name: "shown twice",
-        board: SMALL,
-        steps: &[
-            Step::Blank(1),
-            Step::Show(1),
-            Step::Show(1),
-            Step::Ask(Question::Size(1)),
-            Step::Blank(1),
-            Step::Ask(Question::Size(1)),
-        ],
+        tried: Script {
+            board: SMALL,
+            steps: &[
+                Step::Blank(1),
+                Step::Show(1),
+                Step::Show(1),
+                Step::Ask(Question::Size(1)),
+                Step::Blank(1),
+                Step::Ask(Question::Size(1)),
+            ],
+        },
     },
-    Script {
+    Case {
         name: "never blanked",
-        board: SMALL,
-        steps: &[
-            Step::Show(2),
-            Step::Ask(Question::Size(2)),
-            Step::Ask(Question::Part(2, 2)),
-            Step::Ask(Question::On(2, 2)),
-        ],
+        tried: Script {
+            board: SMALL,
+            steps: &[
+                Step::Show(2),
+                Step::Ask(Question::Size(2)),
+                Step::Ask(Question::Part(2, 2)),
+                Step::Ask(Question::On(2, 2)),
+            ],
+        },
     },
-    Script {
+    Case {
         name: "empty net",
-        board: Draft::Listed(1, &[0, 1], &[0]),
-        steps: &[
-            Step::Blank(0),
-            Step::Ask(Question::Size(0)),
-            Step::Show(0),
-            Step::Ask(Question::Size(0)),
-            Step::Ask(Question::Size(1)),
-        ],
+        tried: Script {
+            board: Draft::Listed {
+                parts: 1,
+                ends: &[0, 1],
+                joins: &[0],
+            },
+            steps: &[
+                Step::Blank(0),
+                Step::Ask(Question::Size(0)),
+                Step::Show(0),
+                Step::Ask(Question::Size(0)),
+                Step::Ask(Question::Size(1)),
+            ],
+        },
     },
-    Script {
+    Case {
         name: "no nets",
-        board: Draft::Listed(1, &[], &[]),
-        steps: &[
-            Step::Blank(0),
-            Step::Show(0),
-            Step::Ask(Question::Nets),
-            Step::Ask(Question::Parts),
-            Step::Ask(Question::Class(0)),
-        ],
+        tried: Script {
+            board: Draft::Listed {
+                parts: 1,
+                ends: &[],
+                joins: &[],
+            },
+            steps: &[
+                Step::Blank(0),
+                Step::Show(0),
+                Step::Ask(Question::Nets),
+                Step::Ask(Question::Parts),
+                Step::Ask(Question::Class(0)),
+            ],
+        },
     },
-    Script {
+    Case {
         name: "4,096 nets",
-        board: Draft::Grid(1, 4_096, 1),
-        steps: &[
-            Step::Blank(4_095),
-            Step::Ask(Question::Size(4_095)),
-            Step::Ask(Question::Part(4_095, 0)),
-            Step::Ask(Question::On(0, 4_095)),
-            Step::Ask(Question::Size(4_094)),
-            Step::Ask(Question::On(0, 4_094)),
-            Step::Blank(4_096),
-            Step::Show(4_096),
-            Step::Ask(Question::Size(4_096)),
-            Step::Show(4_095),
-            Step::Ask(Question::Size(4_095)),
-            Step::Ask(Question::On(0, 4_095)),
-        ],
+        tried: Script {
+            board: Draft::Grid {
+                parts: 1,
+                nets: 4_096,
+                each: 1,
+            },
+            steps: &[
+                Step::Blank(4_095),
+                Step::Ask(Question::Size(4_095)),
+                Step::Ask(Question::Part(4_095, 0)),
+                Step::Ask(Question::On(0, 4_095)),
+                Step::Ask(Question::Size(4_094)),
+                Step::Ask(Question::On(0, 4_094)),
+                Step::Blank(4_096),
+                Step::Show(4_096),
+                Step::Ask(Question::Size(4_096)),
+                Step::Show(4_095),
+                Step::Ask(Question::Size(4_095)),
+                Step::Ask(Question::On(0, 4_095)),
+            ],
+        },
     },
 ];
 
