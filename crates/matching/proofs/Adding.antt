@@ -83,9 +83,6 @@ module _ (c : Circuit) (s : List ℕ) where
         ap (λ (z : List (Entry Cell)). answer by_cell z cell room) e
         ∙ answer_room by_cell (length (so_far i k)) room (tallied by_cell (so_far i k)) cell (roomy by_cell (so_far i k)) (omega arith) (omega arith)
 
-  pub far_none : (i : ℕ) → so_far i 0 ≡ keys c s i
-  far_none i = append-nil (keys c s i)
-
   pub far_all : (i k : ℕ) → length (net c (get_or s i 0)) ≤ k → so_far i k ≡ keys c s (suc i)
   far_all i k h = ap (λ (zs : List ℕ). keys c s i ++ picked c s i zs) (take_all k (net c (get_or s i 0)) h)
 

@@ -76,11 +76,6 @@ module _ {K : Type 0} (c : K → K → Ordering) (k : K) (es : List (Entry K)) w
       ∙ ap (λ n. cond (eqb n 65535) refused (Ok tt)) (counted_found i d e)
       ∙ ap (λ t. cond t refused (Ok tt)) full
 
-  pub answer_gap : (room i : ℕ) (b : Bool) → Err i ≡ found c es k → leb room (length es) ≡ b → answer c es k room ≡ cond b refused (Ok tt)
-  answer_gap room i b e full =
-      ap (λ f. cond (by_found f (eqb (counted c es k) 65535) (leb room (length es))) refused (Ok tt)) (sym e)
-      ∙ ap (λ t. cond t refused (Ok tt)) full
-
 -- the entries in use are the first n of the table
 module _ {K : Type 0} (c : K → K → Ordering) (k : K) (es : List (Entry K)) (n : ℕ) (us : List (Entry K)) (used : us ≡ take n es) where
   abbrev in_use : {r : Result ℕ ℕ} → r ≡ found c us k → r ≡ found c (take n es) k

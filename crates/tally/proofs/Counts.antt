@@ -14,9 +14,6 @@ use Rattle.tally.specs.Levels.{LevelOn, times, Roomy}
 less_equal : Less ≡ Equal → ⊥
 less_equal e = let z : ◌≡◌ {A = ℕ} 0 1 = cc in omega arith
 
-greater_equal : Greater ≡ Equal → ⊥
-greater_equal e = let z : ◌≡◌ {A = ℕ} 0 1 = cc in omega arith
-
 module _ {K : Type 0} {R : K → K → Ordering} (o : IsTotalOrder R) where
   -- below one that is below
   chain : (e k j : K) → R e k ≡ Greater → R k j ≡ Greater → R e j ≡ Greater
