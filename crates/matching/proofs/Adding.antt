@@ -4,7 +4,7 @@ use lib.Bits.{bit_and}
 use Rattle.std.proofs.lemmas.List.{take_more, take_all, length-append, length-take-le}
 use Rattle.std.proofs.lemmas.Nat.{one_shl, and_mask}
 use Rattle.std.proofs.lemmas.Bool.{eq-eqb, ne_eqb}
-use Rattle.circuit.specs.Circuit.{Circuit, net, class, mask}
+use Rattle.circuit.specs.Circuit.{Circuit, net, mask}
 use Rattle.circuit.proofs.Counting.{last_or}
 use Rattle.matching.specs.declared.cell.Cell.{Cell}
 use Rattle.tally.specs.declared.entry.Entry.{Entry}
@@ -83,9 +83,6 @@ module _ (c : Circuit) (s : List ℕ) where
         ap (λ (z : List (Entry Cell)). answer by_cell z cell room) e
         ∙ answer_room by_cell (length (so_far i k)) room (tallied by_cell (so_far i k)) cell (roomy by_cell (so_far i k)) (omega arith) (omega arith)
 
-  pub far_none : (i : ℕ) → so_far i 0 ≡ keys c s i
-  far_none i = append-nil (keys c s i)
-
   pub far_all : (i k : ℕ) → length (net c (get_or s i 0)) ≤ k → so_far i k ≡ keys c s (suc i)
   far_all i k h = ap (λ (zs : List ℕ). keys c s i ++ picked c s i zs) (take_all k (net c (get_or s i 0)) h)
 
@@ -99,6 +96,3 @@ module _ (c : Circuit) (s : List ℕ) (i mk v w : ℕ) (m : mk ≡ mask c s v) (
 
   pub fresh_no : i < 16 → (bit_and mk ((1 * 2 ^ i) % 65536 - 1) ≡ 0 → ⊥) → fresh c s i w ≡ false
   fresh_no l z = ne_eqb (mask c s w % 2 ^ i) 0 (λ d. z (low_bits mk i l ∙ ap (λ (x : ℕ). x % 2 ^ i) (m ∙ ap (mask c s) e) ∙ d))
-
-  pub cell_is : (cls : ℕ) → cls ≡ class c v → record { class = cls; mask = mk } ≡ cell_of c s w
-  cell_is cls d = ap (λ (x : ℕ). record { class = x; mask = mk }) (d ∙ ap (class c) e) ∙ ap (λ (x : ℕ). record { class = class c w; mask = x }) (m ∙ ap (mask c s) e)

@@ -1,10 +1,9 @@
 // The cell rule of a start.
-ghost use Rattle.std.specs.Prelude.{◌≡◌, ℕ, ◌<◌, ◌≤◌, length, Decides};
-ghost use Rattle.circuit.specs.Circuit.{net, meets_cell_rule, upto};
-ghost use Rattle.matching.specs.Keys.{SameSizes};
+ghost use Rattle.std.specs.Prelude.{◌≡◌, ℕ, ◌<◌, ◌≤◌, length};
+ghost use Rattle.circuit.specs.Circuit.{meets_cell_rule, upto};
 
 use super::cell::Cell;
-use super::cells::tally_cells;
+use super::seen::Seen;
 use circuit::Board;
 use tally::{Entry, agree};
 
@@ -16,19 +15,7 @@ pub(super) fn order(k: usize) -> &'static [u16]
     requires { k ≤ 16 }
     ensures { result.now ≡ upto k }
 {
-    &ORDER[0..k]
-}
-
-fn same_sizes<P: Board, B: Board>(p: &P, b: &B, start: &[u16]) -> bool
-    requires { length start.now ≤ 16 }
-    ensures { Decides result (SameSizes (P.Board.means p.now) (B.Board.means b.now) start.now (length start.now)) }
-{
-    for (i, f) in start.iter().enumerate() {
-        if p.size(i as u16) != b.size(*f) {
-            return false;
-        }
-    }
-    true
+    &ORDER[..k]
 }
 
 // Whether as many pattern parts as board parts have each cell, over the pattern's first nets and the start's.
@@ -45,10 +32,12 @@ pub(super) fn cells_agree<P: Board, B: Board>(
     requires board_room { 1024 ≤ length board_room.old }
     ensures { result ≡ meets_cell_rule (P.Board.means p.now) (length start.now) (B.Board.means b.now) start.now }
 {
-    if !same_sizes(p, b, start) {
+    let board = Seen::under(b, start);
+    if !board.same_sizes(p) {
         return false;
     }
-    let first = tally_cells(p, order(start.len()), pattern_room);
-    let second = tally_cells(b, start, board_room);
-    agree(&pattern_room[0..first], &board_room[0..second])
+    let pattern = Seen::under(p, order(start.len()));
+    let first = pattern.tally(pattern_room);
+    let second = board.tally(board_room);
+    agree(&pattern_room[..first], &board_room[..second])
 }

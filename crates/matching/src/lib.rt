@@ -4,9 +4,9 @@
 mod agree;
 mod answer;
 mod cell;
-mod cells;
 mod looks;
 mod mapping;
+mod seen;
 mod start;
 mod taken;
 

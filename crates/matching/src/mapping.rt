@@ -6,11 +6,11 @@ ghost use Rattle.matching.specs.Mapped.{verdict, is_map, mapped};
 
 use super::agree::order;
 use super::answer::MapAnswer;
-use super::cells::mask_of;
 use super::looks::{differ, first_past};
+use super::seen::Seen;
 use super::start::CellTest;
 use super::taken::Taken;
-use circuit::{Board, Reason, Refusal, class_of};
+use circuit::{Board, Reason, Refusal};
 use pattern::Pattern;
 
 // Gives each pattern part in order the smallest untaken board part of its cell.
@@ -31,15 +31,14 @@ fn place_all<B: Board>(
     ensures lender { guard.new.bytes.ghost_name ≡ guard.old.bytes.ghost_name }
     ensures len { length guard.new.bytes.now ≡ length guard.old.bytes.now }
 {
+    let pattern = Seen::under(p, order(tuple.len()));
+    let board = Seen::under(b, tuple);
     for u in 0..p.parts() {
-        let class = class_of(p, u);
-        let mask = mask_of(p, order(tuple.len()), u);
-        let Some(v) = guard.first_free(b, tuple, class, mask) else {
-            return Err(Refusal {
-                reason: Reason::NoPartLeft,
-                place: u as usize,
-            });
+        let none_left = Refusal {
+            reason: Reason::NoPartLeft,
+            place: u as usize,
         };
+        let v = guard.first_free(&board, pattern.cell(u)).ok_or(none_left)?;
         guard.mark(v as usize);
         out[u as usize] = v;
     }
@@ -74,8 +73,7 @@ pub fn map<B: Board>(
             place: 0,
         });
     }
-    let i = first_past(tuple, b.nets());
-    if i < tuple.len() {
+    if let Some(i) = first_past(tuple, b.nets()) {
         return Err(Refusal {
             reason: Reason::TupleNet,
             place: i,

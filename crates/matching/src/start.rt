@@ -14,8 +14,6 @@ use tally::Entry;
 pub struct CellTest {
     pattern_room: [Entry<Cell>; 1024],
     board_room: [Entry<Cell>; 1024],
-    ghost wide_pattern: { length pattern_room ≡ 1024 },
-    ghost wide_board: { length board_room ≡ 1024 },
 }
 
 impl CellTest {

@@ -2,7 +2,8 @@
 ghost use Rattle.std.specs.Prelude.{◌≡◌, ℕ, ◌<◌, ◌≤◌, ◌&&◌, length, replicate, ◌==◌, slice_index, slice_set};
 ghost use Rattle.circuit.specs.Circuit.{in_cell, first};
 
-use super::looks::in_cell;
+use super::cell::Cell;
+use super::seen::Seen;
 use circuit::Board;
 
 pub(super) struct Taken<'a> {
@@ -43,19 +44,12 @@ impl<'a> Taken<'a> {
     }
 
     // The smallest untaken part of the cell.
-    pub(super) fn first_free<B: Board>(
-        &self,
-        b: &B,
-        start: &[u16],
-        class: u16,
-        mask: u16,
-    ) -> Option<u16>
-        requires short { length start.now ≤ 16 }
-        requires room { length (B.Board.means b.now).classes ≤ length self.now.bytes.now }
-        ensures { result ≡ first (λ v. (slice_index self.now.bytes.now v == 0) && in_cell (B.Board.means b.now) start.now class mask v) (length (B.Board.means b.now).classes) }
+    pub(super) fn first_free<B: Board>(&self, board: &Seen<'_, B>, cell: Cell) -> Option<u16>
+        requires { length (B.Board.means board.now.circuit.now).classes ≤ length self.now.bytes.now }
+        ensures { result ≡ first (λ v. (slice_index self.now.bytes.now v == 0) && in_cell (B.Board.means board.now.circuit.now) board.now.start.now cell.class cell.mask v) (length (B.Board.means board.now.circuit.now).classes) }
     {
-        for v in 0..b.parts() {
-            if self.bytes[v as usize] == 0 && in_cell(b, start, class, mask, v) {
+        for v in 0..board.parts() {
+            if self.bytes[v as usize] == 0 && board.cell(v) == cell {
                 return Some(v);
             }
         }

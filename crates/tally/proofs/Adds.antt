@@ -1,6 +1,6 @@
 -- What adding does, by the place that was found.
-use Rattle.std.proofs.Common.{◌≡◌, ℕ, zero, suc, ◌+◌, ◌<◌, ◌≤◌, Bool, cond, eqb, leb, List, [], ◌∷◌, ◌++◌, length, get_or, take, drop, set, Ok, Err, Result, Ordering, Less, Equal, Greater, sym, refl, ap, ◌∙◌, one-add}
-use Rattle.std.proofs.lemmas.List.{at_drop_more, at_drop_all}
+use Rattle.std.proofs.Common.{arith, ◌≡◌, ℕ, zero, suc, ◌+◌, ◌<◌, Bool, cond, eqb, leb, List, [], ◌∷◌, ◌++◌, length, get_or, take, drop, set, Ok, Err, Result, Ordering, Less, Equal, Greater, sym, refl, ap, ◌∙◌, one-add}
+use Rattle.std.proofs.lemmas.List.{get_or-take, get_or_default, length-take}
 use Rattle.tally.specs.declared.entry.Entry.{Entry}
 use Rattle.circuit.specs.declared.refusal.Reason.TheVariants.{TallyFull}
 use Rattle.circuit.specs.declared.refusal.Refusal.{Refusal}
@@ -41,15 +41,6 @@ module _ {K : Type 0} (c : K → K → Ordering) (k : K) where
       go Equal rest = refl
       go Greater rest = refl
 
-  pub counted_at : (es : List (Entry K)) (i : ℕ) (e : Entry K) → i < length es → e ≡ get_or es i e → (r : Ordering) → r ≡ c e.key k → counted c (drop i es) k ≡ by r (counted c (drop (i + 1) es) k) e.count 0
-  counted_at es i e h read r a =
-      at_drop_more (λ zs. counted c zs k) es i e h
-      ∙ ap (λ (z : Entry K). by (c z.key k) (counted c (drop (i + 1) es) k) z.count 0) (sym read)
-      ∙ ap (λ t. by t (counted c (drop (i + 1) es) k) e.count 0) (sym a)
-
-  pub counted_none : (es : List (Entry K)) (i : ℕ) → length es ≤ i → counted c (drop i es) k ≡ 0
-  counted_none es i h = at_drop_all (λ zs. counted c zs k) es i h
-
 pub bumped_set : {K : Type 0} (es : List (Entry K)) (i : ℕ) (d : Entry K) → set es i (bump (get_or es i d)) ≡ bumped es i
 bumped_set [] i d = refl
 bumped_set (y ∷ es) zero d = refl
@@ -71,8 +62,13 @@ module _ {K : Type 0} (c : K → K → Ordering) (k : K) (es : List (Entry K)) w
   pub added_gap : (i : ℕ) → Err i ≡ found c es k → added c es k ≡ take i es ++ (record { key = k; count = 1 } ∷ drop i es)
   added_gap i e = added_is c k es ∙ ap (λ f. applied f es k) (sym e)
 
-  counted_found : (i : ℕ) (d : Entry K) → Ok i ≡ found c es k → counted c es k ≡ (get_or es i d).count
+  pub counted_found : (i : ℕ) (d : Entry K) → Ok i ≡ found c es k → counted c es k ≡ (get_or es i d).count
   counted_found i d e = counted_is c k es d ∙ ap (λ f. picked f es d) (sym e)
+
+  pub counted_gap : (i : ℕ) → Err i ≡ found c es k → counted c es k ≡ 0
+  counted_gap i e =
+      let d : Entry K = record { key = k; count = 0 } in
+      counted_is c k es d ∙ ap (λ f. picked f es d) (sym e)
 
   pub answer_at : (room i : ℕ) (d : Entry K) (b : Bool) → Ok i ≡ found c es k → eqb (get_or es i d).count 65535 ≡ b → answer c es k room ≡ cond b refused (Ok tt)
   answer_at room i d b e full =
@@ -80,7 +76,24 @@ module _ {K : Type 0} (c : K → K → Ordering) (k : K) (es : List (Entry K)) w
       ∙ ap (λ n. cond (eqb n 65535) refused (Ok tt)) (counted_found i d e)
       ∙ ap (λ t. cond t refused (Ok tt)) full
 
-  pub answer_gap : (room i : ℕ) (b : Bool) → Err i ≡ found c es k → leb room (length es) ≡ b → answer c es k room ≡ cond b refused (Ok tt)
-  answer_gap room i b e full =
-      ap (λ f. cond (by_found f (eqb (counted c es k) 65535) (leb room (length es))) refused (Ok tt)) (sym e)
-      ∙ ap (λ t. cond t refused (Ok tt)) full
+-- the entries in use are the first n of the table
+module _ {K : Type 0} (c : K → K → Ordering) (k : K) (es : List (Entry K)) (n : ℕ) (us : List (Entry K)) (used : us ≡ take n es) where
+  abbrev in_use : {r : Result ℕ ℕ} → r ≡ found c us k → r ≡ found c (take n es) k
+  in_use e = e ∙ ap (λ xs. found c xs k) used
+
+  below : (i : ℕ) → i < length us → (i < n) × (i < length es)
+  below i h = let l = length-take n es in let m = ap length used in (omega arith, omega arith)
+
+  pub answer_used : (room i : ℕ) (d : Entry K) (b : Bool) → i < length us → Ok i ≡ found c us k → eqb (get_or es i d).count 65535 ≡ b → answer c (take n es) k room ≡ cond b (Err (record { reason = TallyFull; place = 0 })) (Ok tt)
+  answer_used room i d b h e full =
+      answer_at c k (take n es) room i d b (in_use e) (ap (λ (z : Entry K). eqb z.count 65535) (get_or-take n es i d (below i h).0) ∙ full)
+
+  pub bumped_used : (i : ℕ) (x y : Entry K) → i < length us → Ok i ≡ found c us k → take n (set es i (record { key = (get_or es i x).key; count = (get_or es i y).count + 1 })) ≡ added c (take n es) k
+  bumped_used i x y h e =
+      ap (λ (z : Entry K). take n (set es i (record { key = z.key; count = (get_or es i y).count + 1 }))) (get_or_default es i x y (below i h).1)
+      ∙ ap (take n) (bumped_set es i y)
+      ∙ take_bumped n es i
+      ∙ sym (added_at c k (take n es) i (in_use e))
+
+  pub added_used : (i : ℕ) → Err i ≡ found c us k → added c (take n es) k ≡ take i (take n es) ++ (record { key = k; count = 1 } ∷ drop i (take n es))
+  added_used i e = added_gap c k (take n es) i (in_use e)

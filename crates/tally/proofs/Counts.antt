@@ -14,9 +14,6 @@ use Rattle.tally.specs.Levels.{LevelOn, times, Roomy}
 less_equal : Less ≡ Equal → ⊥
 less_equal e = let z : ◌≡◌ {A = ℕ} 0 1 = cc in omega arith
 
-greater_equal : Greater ≡ Equal → ⊥
-greater_equal e = let z : ◌≡◌ {A = ℕ} 0 1 = cc in omega arith
-
 module _ {K : Type 0} {R : K → K → Ordering} (o : IsTotalOrder R) where
   -- below one that is below
   chain : (e k j : K) → R e k ≡ Greater → R k j ≡ Greater → R e j ≡ Greater
@@ -174,10 +171,10 @@ module _ {K : Type 0} {R : K → K → Ordering} (o : IsTotalOrder R) where
       go Equal p rest = inr (0, omega arith, λ d. p)
       go Greater p rest = inl refl
 
-  pub level_all : (xs ys : List (Entry K)) → LevelOn R xs xs ys (length xs) → LevelOn R ys xs ys (length ys) → (k : K) → counted R xs k ≡ counted R ys k
+  pub level_all : (xs ys : List (Entry K)) → LevelOn R xs xs ys → LevelOn R ys xs ys → (k : K) → counted R xs k ≡ counted R ys k
   level_all xs ys a b k = ⊎_elim none (λ (i, l, q). there xs a i l q) (stands xs k)
     where
-      there : (es : List (Entry K)) → LevelOn R es xs ys (length es) → (i : ℕ) → i < length es → ((d : Entry K) → R (get_or es i d).key k ≡ Equal) → counted R xs k ≡ counted R ys k
+      there : (es : List (Entry K)) → LevelOn R es xs ys → (i : ℕ) → i < length es → ((d : Entry K) → R (get_or es i d).key k ≡ Equal) → counted R xs k ≡ counted R ys k
       there es h i l q =
           let d : Entry K = record { key = k; count = 0 } in
           sym (counted_alike xs (get_or es i d).key k (q d)) ∙ h i d l ∙ counted_alike ys (get_or es i d).key k (q d)

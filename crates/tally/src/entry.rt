@@ -1,5 +1,5 @@
 // A key, and how often it came.
-#[derive(Clone, Copy)]
+#[derive(Clone, Copy, PartialEq, Eq, Debug)]
 pub struct Entry<K> {
     pub key: K,
     pub count: u16,

@@ -1,51 +1,58 @@
-use Rattle.std.proofs.Common.{◌≡◌, ℕ, ◌-◌, List, length, take, refl, ap, ◌∙◌, arith}
+use Rattle.std.proofs.Common.{ℕ, ◌≤◌, List, length, refl, sym, ap, ◌∙◌, subst₂, arith}
 use Rattle.std.proofs.lemmas.Bool.{both_ways}
-use Rattle.circuit.specs.Circuit.{upto}
+use Rattle.circuit.specs.Circuit.{Circuit, upto}
 use Rattle.circuit.proofs.Masks.{length_upto}
-use Rattle.matching.specs.Orders.{by_cell, cells}
+use Rattle.tally.specs.declared.entry.Entry.{Entry}
 use Rattle.tally.specs.Tallies.{tallied}
-use Rattle.matching.specs.Keys.{keys}
+use Rattle.matching.specs.declared.cell.Cell.{Cell}
+use Rattle.matching.specs.Orders.{by_cell}
+use Rattle.matching.specs.Keys.{keys, SameSizes}
 use Rattle.matching.proofs.Ruled.{sizes_few, sizes_same, sizes_rule, level_rule}
 use Rattle.matching.proofs.agree.cells_agree.Goals as goal
+
+-- the cells of a start, counted
+abbrev cells_of : Circuit → List ℕ → List (Entry Cell)
+cells_of c s = tallied by_cell (keys c s (length s))
 
 pub returns-then-not-same_sizes : goal.returns-then-not-same_sizes
 returns-then-not-same_sizes g c =
     let p = g.P.Board.means c.args.p.now in
     let b = g.B.Board.means c.args.b.now in
-    sizes_rule p b (g.P.Board.sound c.args.p.now) (g.B.Board.sound c.args.b.now) (length c.args.start.now) c.args.start.now refl
-    (λ h. both_ways c.same_sizes.result c.if-not-same_sizes.true (c.same_sizes.ensures.1 h))
-
-pub tally_cells-first-requires : goal.tally_cells-first-requires
-tally_cells-first-requires g c =
-    let p = g.P.Board.means c.args.p.now in
-    let e = c.order.ensures in
-    let k = length c.args.start.now in
-    let l = length_upto k in
-    let n = length c.order.result.now in
-    let d : n ≡ k = ap length e ∙ l in
-    let f = sizes_few p (g.P.Board.sound c.args.p.now) c.order.result.now n c.requires.few in
-    record { short = omega arith; room = omega arith; low = omega arith }
-
-pub tally_cells-second-requires : goal.tally_cells-second-requires
-tally_cells-second-requires g c =
-    let p = g.P.Board.means c.args.p.now in
-    let b = g.B.Board.means c.args.b.now in
     let s = c.args.start.now in
-    let k = length s in
+    let e = c.under-board.ensures in
+    sizes_rule p b (g.P.Board.sound c.args.p.now) (g.B.Board.sound c.args.b.now) (length s) s refl
+    (λ h. both_ways c.same_sizes.result c.if-not-same_sizes.true (c.same_sizes.ensures.1
+    (subst₂ (λ (x : g.row.B.Denot) (t : List ℕ). SameSizes p (g.B.Board.means x) t (length t)) (sym e.circuit) (sym e.start) h)))
+
+pub under-pattern-requires : goal.under-pattern-requires
+under-pattern-requires g c = omega (arith, ap length c.order.ensures, length_upto (length c.args.start.now), c.requires.short)
+
+pub tally-first-requires : goal.tally-first-requires
+tally-first-requires g c =
+    let r = c.under-pattern.result in
+    let few : length (g.P.Board.means r.circuit.now).classes ≤ 64 = omega (arith, c.requires.few, ap (λ (x : g.row.P.Denot). length (g.P.Board.means x).classes) c.under-pattern.ensures.circuit) in
+    let f = sizes_few (g.P.Board.means r.circuit.now) (g.P.Board.sound r.circuit.now) r.start.now (length r.start.now) few in
+    record { room = omega (arith, f, r.short, c.requires.pattern_room); low = omega (arith, f, r.short) }
+
+pub tally-second-requires : goal.tally-second-requires
+tally-second-requires g c =
+    let p = g.P.Board.means c.args.p.now in
+    let r = c.under-board.result in
+    let k = length r.start.now in
     let same = c.same_sizes.ensures.0 c.if-not-same_sizes.false in
     let f = sizes_few p (g.P.Board.sound c.args.p.now) (upto k) k c.requires.few in
-    let e = sizes_same p b s k k (omega arith) same in
-    record { short = c.requires.short; room = omega arith; low = omega arith }
+    let e = sizes_same p (g.B.Board.means r.circuit.now) r.start.now k k (omega arith) same in
+    record { room = omega (arith, e, f, r.short, c.requires.board_room); low = omega (arith, e, f, r.short) }
 
 pub returns : goal.returns
 returns g c =
     let p = g.P.Board.means c.args.p.now in
     let b = g.B.Board.means c.args.b.now in
     let s = c.args.start.now in
-    let y : c.tally_cells-first.result - 0 ≡ c.tally_cells-first.result = omega arith in
-    let z : c.tally_cells-second.result - 0 ≡ c.tally_cells-second.result = omega arith in
+    let q = c.under-pattern.ensures in
+    let e = c.under-board.ensures in
     level_rule p b (g.P.Board.sound c.args.p.now) (g.B.Board.sound c.args.b.now) (length s) s refl _ _
-    (ap (λ (n : ℕ). take n c.tally_cells-first.new.room) y ∙ c.tally_cells-first.ensures.after ∙ ap (λ (o : List ℕ). tallied by_cell (keys p o (length o))) c.order.ensures)
-    (ap (λ (n : ℕ). take n c.tally_cells-second.new.room) z ∙ c.tally_cells-second.ensures.after)
+    (c.tally-first.ensures.after ∙ ap (λ (x : g.row.P.Denot). cells_of (g.P.Board.means x) c.under-pattern.result.start.now) q.circuit ∙ ap (cells_of p) (q.start ∙ c.order.ensures))
+    (c.tally-second.ensures.after ∙ ap (λ (x : g.row.B.Denot). cells_of (g.B.Board.means x) c.under-board.result.start.now) e.circuit ∙ ap (cells_of b) e.start)
     c.agree.result
-    (c.agree.ensures cells)
+    c.agree.ensures

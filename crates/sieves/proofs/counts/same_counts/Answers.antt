@@ -1,5 +1,4 @@
 use Rattle.std.proofs.Common.{◌≡◌, ℕ, ◌-◌, take, sym, ap, ◌∙◌, arith}
-use Rattle.std.specs.Cmp.{nat_cmp_total}
 use Rattle.circuit.proofs.Nets.{net_few}
 use Rattle.pattern.specs.Drawn.{drawn}
 use Rattle.pattern.specs.Kept.{drawn_sound, parts_few}
@@ -31,4 +30,4 @@ returns g c =
     (ap (λ (n : ℕ). take n c.tally_net-first.new.room) y ∙ c.tally_net-first.ensures.after)
     (ap (λ (n : ℕ). take n c.tally_net-second.new.room) z ∙ c.tally_net-second.ensures.after)
     c.agree.result
-    (c.agree.ensures nat_cmp_total)
+    c.agree.ensures

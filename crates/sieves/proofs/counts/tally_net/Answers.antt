@@ -1,5 +1,4 @@
 use Rattle.std.proofs.Common.{◌≡◌, ℕ, ◌<◌, ◌≤◌, [], ◌∷◌, ◌++◌, map, length, get_or, take, sym, ap, ◌∙◌, arith, rules}
-use Rattle.std.specs.Cmp.{nat_cmp_total}
 use Rattle.circuit.specs.Circuit.{net, class}
 use Rattle.tally.specs.Tallies.{tallied}
 use Rattle.tally.proofs.Counts.{put_more}
@@ -19,11 +18,10 @@ loop-k-preserved g c =
     let room = length c.loop-k.tally.entries.now in
     let h : k < length (net m f) = omega arith in
     let cls : c.class_of.result ≡ class m (get_or (net m f) k 0) = c.class_of.ensures ∙ ap (class m) c.part_of.ensures in
-    let fits = so_far_room m f k h room es c.class_of.result inv.3 (omega (arith, c.requires, inv.2, ap length c.over-tally.ensures.room)) (omega (arith, c.size-k-end.type_inv)) in (
-      p.within inv.0,
-      p.lender ∙ inv.1,
-      p.room ∙ inv.2,
-      put_more nat_cmp (map (class m) (take k (net m f))) c.class_of.result es _ room inv.3 fits (p.after nat_cmp_total)
+    let fits = so_far_room m f k h room es c.class_of.result inv.2 (omega (arith, c.requires, inv.1, ap length c.over-tally.ensures.room)) (omega (arith, c.size-k-end.type_inv)) in (
+      p.lender ∙ inv.0,
+      p.room ∙ inv.1,
+      put_more nat_cmp (map (class m) (take k (net m f))) c.class_of.result es _ room inv.2 fits p.after
           ∙ ap (λ (x : ℕ). tallied nat_cmp (map (class m) (take k (net m f)) ++ x ∷ [])) cls
           ∙ ap (tallied nat_cmp) (sym (so_far_more m f k h)),
     )
@@ -34,5 +32,5 @@ returns g c =
     let f = c.args.f in
     let inv = c.loop-k.invariant in
     let h : length (net m f) ≤ c.loop-k.k = omega arith in
-    let all : take c.loop-k.tally.len c.loop-k.tally.entries.now ≡ tallied nat_cmp (classes_on m f) = inv.3 ∙ ap (tallied nat_cmp) (so_far_all m f c.loop-k.k h) in
+    let all : take c.loop-k.tally.len c.loop-k.tally.entries.now ≡ tallied nat_cmp (classes_on m f) = inv.2 ∙ ap (tallied nat_cmp) (so_far_all m f c.loop-k.k h) in
     search rules

@@ -1,7 +1,6 @@
 use Rattle.std.proofs.Common.{◌≡◌, drop}
-use Rattle.std.specs.Cmp.{IsTotalOrder}
 use Rattle.tally.specs.Tallies.{found, shift}
 use Rattle.tally.proofs.ops.find.Given as goal
 
 abbrev pub invariant-loop-i : goal.invariant-loop-i
-invariant-loop-i g l = (o : IsTotalOrder g.K.Ord.cmp) → found g.K.Ord.cmp l.entries l.key ≡ shift l.i (found g.K.Ord.cmp (drop l.i l.entries) l.key)
+invariant-loop-i g l = found g.K.Ord.cmp l.entries l.key ≡ shift l.i (found g.K.Ord.cmp (drop l.i l.entries) l.key)
