@@ -14,8 +14,8 @@ impl TableSieve {
         ensures entries { (i f : ℕ) → i < 16 → f < 4096 → slice_index_or self.new.fits (i * 4096 + f) false ≡ have_same_counts (drawn pattern.now) i (B.Board.means board.now) f }
         ensures means { (s : List ℕ) → 1 ≤ length s → length s ≤ 16 → last s < 4096 → Decides (looked_up self.new.fits s) (SameCounts (drawn pattern.now) (place s) (B.Board.means board.now) (last s)) }
     {
-        for at in 0..65536usize {
-            self.fits[at] = same_counts(pattern, (at / 4096) as u16, board, (at % 4096) as u16);
+        for (at, fit) in self.fits.iter_mut().enumerate() {
+            *fit = same_counts(pattern, (at / 4096) as u16, board, (at % 4096) as u16);
         }
     }
 }
@@ -28,14 +28,12 @@ impl<B: Board> Sieve<B> for TableSieve {
     }
 
     fn keep(&self, _pattern: &Pattern, _board: &B, start: &[u16]) -> bool {
-        if start.len() == 0 || start.len() > 16 {
+        let Some((last, before)) = start.split_last() else {
+            return true;
+        };
+        if before.len() >= 16 || *last >= 4096 {
             return true;
         }
-        let place = start.len() - 1;
-        let last = start[place] as usize;
-        if last >= 4096 {
-            return true;
-        }
-        self.fits[place * 4096 + last]
+        self.fits[before.len() * 4096 + *last as usize]
     }
 }
