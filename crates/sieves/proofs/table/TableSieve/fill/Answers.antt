@@ -7,5 +7,5 @@ pub returns : goal.returns
 returns g c =
     let p = drawn c.args.pattern.now in
     let b = g.B.Board.means c.args.board.now in
-    let filled : Filled p b c.loop-at.fit-items = search rules in
-    record { entries = filled; means = filled_means p b c.loop-at.fit-items filled }
+    let filled : Filled p b c.loop-place.row-items = search rules in
+    record { entries = filled; means = filled_means p b c.loop-place.row-items filled }
