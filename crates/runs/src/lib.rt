@@ -28,10 +28,8 @@ pub fn run<L: Label, B: Board, S: Sieve<B>>(
     ensures { Whole L.Label.proper L.Label.same _pattern_labels.now _board_labels.now (drawn pattern.now) (B.Board.means board.now) (S.Sieve.keeps sieve.new (drawn pattern.now) (B.Board.means board.now)) calls.old calls.new (bookmark (length (drawn pattern.now).nets) (length (B.Board.means board.now).nets) result) }
 {
     let mut search = Search::open(pattern, board, sieve);
-    for i in 0..calls.len() {
-        let mut call = calls[i];
+    for call in calls.iter_mut() {
         call.answer = search.next(pattern, board, sieve, call.budget, &mut call.row);
-        calls[i] = call;
     }
     search
 }

@@ -1,37 +1,19 @@
 -- The levels of a search: raised and tested one by one.
-use Rattle.std.proofs.Common.{◌≡◌, ℕ, zero, suc, ◌+◌, ◌<◌, ◌≤◌, Bool, true, false, ltb, ◌⊎◌, List, [], ◌∷◌, ◌++◌, length, get_or, take, set, sym, refl, ◌∙◌, subst, inl, inr, arith}
+use Rattle.std.proofs.Common.{◌≡◌, ℕ, zero, suc, ◌+◌, ◌<◌, ◌≤◌, Bool, true, false, ◌&&◌, ltb, ◌⊎◌, List, [], ◌∷◌, ◌++◌, length, get_or, take, set, sym, refl, ap, ◌∙◌, subst, inl, inr, arith}
 use Rattle.std.proofs.lemmas.Bool.{cond-true, cond-false, ltb-true, cond_both, lt-ltb, le-ltb, and_parts, and_from, and_left, and_right}
 use Rattle.std.proofs.lemmas.List.{take_more, take_more_set, length-take-le}
 use Rattle.circuit.specs.Circuit.{AllBelow, are_below}
 use Rattle.promise.specs.Order.{at}
 use Rattle.promise.specs.Search.{raise}
-use Rattle.search.specs.Held.{standing, moved}
+use Rattle.std.specs.List.{list_all}
+use Rattle.search.specs.Held.{standing, moved, nets}
+use Rattle.search.specs.declared.bookmark.Level.{Level}
 use Rattle.promise.proofs.Order.{raise_last, raise_fine, Fine, all_below_push}
 
-pub below_all : (N : ℕ) (s : List ℕ) → AllBelow N s → are_below N s ≡ true
-below_all N [] b = refl
-below_all N (x ∷ xs) b = and_from (ltb x N) (are_below N xs) (lt-ltb x N b.0) (below_all N xs b.1)
-
-pub all_below : (N : ℕ) (s : List ℕ) → are_below N s ≡ true → AllBelow N s
-all_below N [] e = tt
-all_below N (x ∷ xs) e =
-    let p = and_parts (ltb x N) (are_below N xs) e in
-    (ltb-true x N p.0, all_below N xs p.1)
-
-below_push : (N : ℕ) (s : List ℕ) (x : ℕ) → are_below N s ≡ true → x < N → are_below N (s ++ x ∷ []) ≡ true
-below_push N [] x e l = and_from (ltb x N) true (lt-ltb x N l) refl
-below_push N (y ∷ ys) x e l =
-    let p = and_parts (ltb y N) (are_below N ys) e in
-    and_from (ltb y N) (are_below N (ys ++ x ∷ [])) p.0 (below_push N ys x p.1 l)
-
-pub below_more : (N : ℕ) (xs : List ℕ) (i : ℕ) → i < length xs → are_below N (take i xs) ≡ true → get_or xs i 0 < N → are_below N (take (i + 1) xs) ≡ true
-below_more N xs i l e h = rw (take_more xs i 0 l) (below_push N (take i xs) (get_or xs i 0) e h)
-
-pub not_below : (N : ℕ) (xs : List ℕ) (n i : ℕ) → i < n → i < length xs → N ≤ get_or xs i 0 → are_below N (take n xs) ≡ false
-not_below N [] n i l m h = absurd (omega arith)
-not_below N (x ∷ xs) zero i l m h = absurd (omega arith)
-not_below N (x ∷ xs) (suc n) zero l m h = and_left (ltb x N) (are_below N (take n xs)) (le-ltb x N h)
-not_below N (x ∷ xs) (suc n) (suc i) l m h = and_right (ltb x N) (are_below N (take n xs)) (not_below N xs n i (omega arith) (omega arith) h)
+-- every level is below N
+pub levels_below : (N : ℕ) (ls : List Level) → list_all (λ (l : Level). ltb l.net N) ls ≡ are_below N (nets ls)
+levels_below N [] = refl
+levels_below N (l ∷ ls) = ap (λ (t : Bool). ltb l.net N && t) (levels_below N ls)
 
 pub below_at : (N : ℕ) (xs : List ℕ) (n i : ℕ) → i < n → i < length xs → AllBelow N (take n xs) → get_or xs i 0 < N
 below_at N [] n i l m b = absurd (omega arith)

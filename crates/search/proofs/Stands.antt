@@ -7,24 +7,25 @@ use Rattle.promise.specs.Order.{Mark, at, end}
 use Rattle.promise.specs.Search.{Found, Quiet, Answer, Next}
 use Rattle.promise.specs.Hits.{passing, Called}
 use Rattle.promise.proofs.Lawful.{called}
-use Rattle.search.proofs.Nets.{nets_length}
+use Rattle.circuit.proofs.Decided.{below_decided}
+use Rattle.std.proofs.lemmas.List.{length-map}
+use Rattle.search.specs.declared.bookmark.Level.{Level}
 use Rattle.search.specs.Held.{held, is_start, bookmark, standing, Sits, moved, rules, nets}
 use Rattle.search.specs.declared.bookmark.Search.{Search}
 use Rattle.promise.proofs.Steps.{quiet_more}
-use Rattle.search.proofs.Raised.{all_below, below_all}
 
 pub standing_some : (s : List ℕ) → 0 < length s → standing s ≡ at s
 standing_some [] l = absurd (omega arith)
 standing_some (x ∷ xs) l = refl
 
 pub held_long : (q : Search) → q.len ≤ 16 → length (held q) ≡ q.len
-held_long q l = length-take-le q.len (nets q.levels) (omega (arith, nets_length q.levels, q.full))
+held_long q l = length-take-le q.len (nets q.levels) (omega (arith, length-map q.levels (λ (l : Level). l.net), q.full))
 
 pub start_sits : (m N : ℕ) (q : Search) → is_start m N q ≡ true → Sits m N q × (0 < q.len)
 start_sits m N q e =
     let p = and_parts (ltb 0 q.len) (leb q.len m && are_below N (held q)) e in
     let r = and_parts (leb q.len m) (are_below N (held q)) p.1 in
-    (record { few = leb-true q.len m r.0; below = all_below N (held q) r.1 }, ltb-true 0 q.len p.0)
+    (record { few = leb-true q.len m r.0; below = (below_decided N (held q)).0 r.1 }, ltb-true 0 q.len p.0)
 
 pub sits_bookmark : (m N : ℕ) (q : Search) → Sits m N q → q.len ≤ 16 → bookmark m N q ≡ standing (held q)
 sits_bookmark m N q w l = go (cases_lt 0 q.len)
@@ -36,7 +37,7 @@ sits_bookmark m N q w l = go (cases_lt 0 q.len)
     go (inl g) =
         cond-true (is_start m N q) _ _
         (and_from (ltb 0 q.len) (leb q.len m && are_below N (held q)) (lt-ltb 0 q.len g)
-        (and_from (leb q.len m) (are_below N (held q)) (le-leb q.len m w.few) (below_all N (held q) w.below)))
+        (and_from (leb q.len m) (are_below N (held q)) (le-leb q.len m w.few) ((below_decided N (held q)).1 w.below)))
         ∙ sym (standing_some (held q) (omega (arith, long)))
     go (inr g) =
         cond-false (is_start m N q) _ _ (and_left (ltb 0 q.len) (leb q.len m && are_below N (held q)) (le-ltb 0 q.len g))
@@ -71,23 +72,3 @@ pub called_at : (p b : Circuit) → Sound p → Sound b → (keeps : List ℕ �
 called_at p b sp sb keeps m n e d some q budget row a q' row' x =
     called p b sp sb keeps (omega arith) (bookmark (N p) (N b) q) budget row a (bookmark (N p) (N b) q') row'
     (subst₂ (λ (i j : ℕ). Next (rules i j (passing p b keeps)) (bookmark i j q) budget row a (bookmark i j q') row') e d x)
-
--- the levels of a search that was just opened
-pub opened : (m n len : ℕ) (ns rest : List ℕ) → 1 ≤ m → ns ≡ 0 ∷ rest → ((n ≡ 0) × (len ≡ 0)) ⊎ ((n ≡ 0 → ⊥) × (len ≡ 1))
-    → cond (ltb 0 len && (leb len m && are_below n (take len ns))) (at (take len ns)) end ≡ cond (ltb 0 n) (at (0 ∷ [])) end
-opened m n len ns rest some starts (inl (z, e)) =
-    cond-false (ltb 0 len && (leb len m && are_below n (take len ns))) _ _ (and_left (ltb 0 len) (leb len m && are_below n (take len ns)) (le-ltb 0 len (omega arith)))
-    ∙ sym (cond-false (ltb 0 n) _ _ (le-ltb 0 n (omega arith)))
-opened m n len ns rest some starts (inr (z, e)) =
-    let positive : 0 < n = go n z in
-    let h : take len ns ≡ 0 ∷ [] = ap (λ (k : ℕ). take k ns) e ∙ ap (take 1) starts in
-    cond-true (ltb 0 len && (leb len m && are_below n (take len ns))) _ _
-    (and_from (ltb 0 len) (leb len m && are_below n (take len ns)) (lt-ltb 0 len (omega arith))
-    (and_from (leb len m) (are_below n (take len ns)) (le-leb len m (omega arith))
-    (ap (are_below n) h ∙ and_from (ltb 0 n) true (lt-ltb 0 n positive) refl)))
-    ∙ ap (λ (s : List ℕ). at s) h
-    ∙ sym (cond-true (ltb 0 n) _ _ (lt-ltb 0 n positive))
-  where
-    go : (i : ℕ) → (i ≡ 0 → ⊥) → 0 < i
-    go zero f = absurd (f refl)
-    go (suc i) f = omega arith

@@ -3,6 +3,8 @@
 
 mod bookmark;
 mod calls;
+mod span;
+mod tries;
 
 pub use bookmark::Search;
 pub use calls::Answer;

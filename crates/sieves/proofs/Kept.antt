@@ -1,5 +1,5 @@
 -- The counts sieve drops no start with which a hit begins.
-use Rattle.std.proofs.Common.{◌≡◌, ℕ, ◌+◌, ◌*◌, ◌<◌, ◌≤◌, Bool, true, false, ◌&&◌, eqb, ltb, leb, List, ◌++◌, length, get_or, Decides, sym, refl, ap, ◌∙◌, subst, ⊎_elim, arith}
+use Rattle.std.proofs.Common.{◌≡◌, ℕ, ◌<◌, ◌≤◌, Bool, true, false, ◌&&◌, eqb, ltb, leb, List, [], ◌++◌, length, get_or, Decides, sym, refl, ap, ◌∙◌, subst, ⊎_elim, arith}
 use Rattle.std.proofs.lemmas.List.{length-append, get_or_append_left}
 use Rattle.std.proofs.lemmas.Bool.{eqb-true, and_parts, and_from, cond_both, cond-true, ltb-true, lt-ltb}
 use Rattle.std.proofs.lemmas.Bool.Decides.{Decides-eqb, Decides-and, Decides-like}
@@ -45,8 +45,8 @@ module _ (p : Circuit) (i : ℕ) (b : Circuit) (f : ℕ) where
   counts_decided = Decides-like (have_same_counts p i b f) all_from_levels (λ h. (λ u _. h (class p u), λ v _. h (class b v))) levels_decided
 
 -- what the table must say
-abbrev pub Filled : Circuit → Circuit → List Bool → Type 0
-Filled p b fits = (i f : ℕ) → i < 16 → f < 4096 → get_or fits (i * 4096 + f) false ≡ have_same_counts p i b f
+abbrev pub Filled : Circuit → Circuit → List (List Bool) → Type 0
+Filled p b fits = (i f : ℕ) → i < 16 → f < 4096 → get_or (get_or fits i []) f false ≡ have_same_counts p i b f
 
 -- a start with which a hit begins passes the counts test at its last net
 begins : (p b : Circuit) → Sound p → Sound b → (s rest : List ℕ) → 1 ≤ length s → Hit p b (s ++ rest) → SameCounts p (place s) b (last s)
@@ -60,11 +60,11 @@ counts_fit p b sp sb s rest some h =
     cond_both (ltb 0 (length s) && leb (length s) (N p)) _ _ (λ (t : Bool). t ≡ true)
     (λ _. (counts_decided p (place s) b (last s)).1 (begins p b sp sb s rest some h)) (λ _. refl)
 
-pub filled_fit : (p b : Circuit) → Sound p → Sound b → (fits : List Bool) → Filled p b fits → Fit (looked_up fits) p b
+pub filled_fit : (p b : Circuit) → Sound p → Sound b → (fits : List (List Bool)) → Filled p b fits → Fit (looked_up fits) p b
 filled_fit p b sp sb fits filled s rest some h =
     cond_both (ltb 0 (length s) && (ltb (length s) 17 && ltb (last s) 4096)) _ _ (λ (t : Bool). t ≡ true) inside (λ _. refl)
   where
-    inside : (ltb 0 (length s) && (ltb (length s) 17 && ltb (last s) 4096)) ≡ true → get_or fits (place s * 4096 + last s) false ≡ true
+    inside : (ltb 0 (length s) && (ltb (length s) 17 && ltb (last s) 4096)) ≡ true → get_or (get_or fits (place s) []) (last s) false ≡ true
     inside e =
         let (_, r) = and_parts (ltb 0 (length s)) (ltb (length s) 17 && ltb (last s) 4096) e in
         let (few, low) = and_parts (ltb (length s) 17) (ltb (last s) 4096) r in
@@ -72,14 +72,14 @@ filled_fit p b sp sb fits filled s rest some h =
         filled (place s) (last s) (omega arith) (ltb-true (last s) 4096 low) ∙ (counts_decided p (place s) b (last s)).1 (begins p b sp sb s rest some h)
 
 -- a start that the table has an entry for
-pub looked_inside : (fits : List Bool) (s : List ℕ) → 0 < length s → length s < 17 → last s < 4096 → get_or fits (place s * 4096 + last s) false ≡ looked_up fits s
+pub looked_inside : (fits : List (List Bool)) (s : List ℕ) → 0 < length s → length s < 17 → last s < 4096 → get_or (get_or fits (place s) []) (last s) false ≡ looked_up fits s
 looked_inside fits s some few low =
     sym (cond-true (ltb 0 (length s) && (ltb (length s) 17 && ltb (last s) 4096)) _ _
     (and_from (ltb 0 (length s)) (ltb (length s) 17 && ltb (last s) 4096) (lt-ltb 0 (length s) some)
     (and_from (ltb (length s) 17) (ltb (last s) 4096) (lt-ltb (length s) 17 few) (lt-ltb (last s) 4096 low))))
 
 -- a filled table means what the sieve means
-pub filled_means : (p b : Circuit) (fits : List Bool) → Filled p b fits → (s : List ℕ) → 1 ≤ length s → length s ≤ 16 → last s < 4096
+pub filled_means : (p b : Circuit) (fits : List (List Bool)) → Filled p b fits → (s : List ℕ) → 1 ≤ length s → length s ≤ 16 → last s < 4096
     → Decides (looked_up fits s) (SameCounts p (place s) b (last s))
 filled_means p b fits filled s some few low =
     let e : looked_up fits s ≡ have_same_counts p (place s) b (last s) = sym (looked_inside fits s some (omega arith) low) ∙ filled (place s) (last s) (omega arith) low in

@@ -2,7 +2,7 @@
 use Rattle.std.proofs.Common.{◌≡◌, ℕ, zero, suc, ◌+◌, ◌<◌, ◌≤◌, Bool, true, false, cond, eqb, ◌⊎◌, List, [], ◌∷◌, ◌++◌, map, length, get_or, take, Ok, Decides, count_by, Ordering, Less, Equal, Greater, sym, refl, ap, ◌∙◌, inl, inr, ⊎_elim, arith}
 use Rattle.std.specs.Ordering.{is_eq, nat_cmp}
 use Rattle.std.specs.Cmp.{nat_cmp_total, unsigned_tied}
-use Rattle.std.proofs.lemmas.List.{length-map, map_more, length-take-le, take_all}
+use Rattle.std.proofs.lemmas.List.{length-map, map_more, length-take-le}
 use Rattle.std.proofs.lemmas.List.Sums.{sum_by-cons}
 use Rattle.std.proofs.lemmas.Bool.{cases_order, eq-eqb, ne_eqb}
 use Rattle.std.proofs.lemmas.Bool.Decides.{Decides-like, same_from_decides}
@@ -154,6 +154,3 @@ module _ (c : Circuit) (f k : ℕ) (h : k < length (net c f)) where
       let n : length ks ≡ k = length-map (take k (net c f)) (class c) ∙ length-take-le k (net c f) (omega arith) in
       ap (λ (z : List (Entry ℕ)). answer nat_cmp z cls room) e
       ∙ answer_room nat_cmp (length ks) room (tallied nat_cmp ks) cls (roomy nat_cmp ks) (omega arith) (omega arith)
-
-pub so_far_all : (c : Circuit) (f k : ℕ) → length (net c f) ≤ k → map (class c) (take k (net c f)) ≡ classes_on c f
-so_far_all c f k h = ap (map (class c)) (take_all k (net c f) h)

@@ -1,5 +1,5 @@
 -- When a board net has, for each class, as many parts as a pattern net.
-use Rattle.std.specs.Prelude.{◌≡◌, ℕ, ◌+◌, ◌-◌, ◌*◌, Bool, true, false, cond, ◌&&◌, List, map, length, ◌==◌, nat_le, nat_lt, slice_index, slice_index_or}
+use Rattle.std.specs.Prelude.{◌≡◌, ℕ, ◌-◌, Bool, true, false, cond, ◌&&◌, List, [], map, length, ◌==◌, nat_le, nat_lt, slice_index, slice_index_or}
 use Rattle.circuit.specs.Circuit.{Circuit, parts, N, net, class, on, count, every}
 
 -- part v is on net f and of this class
@@ -25,8 +25,8 @@ abbrev pub last : List ℕ → ℕ
 last s = slice_index s (place s)
 
 -- what a table of places and nets says of a start; of what it has no entry for it keeps
-abbrev pub looked_up : List Bool → List ℕ → Bool
-looked_up fits s = cond (nat_lt 0 (length s) && (nat_lt (length s) 17 && nat_lt (last s) 4096)) (slice_index_or fits (place s * 4096 + last s) false) true
+abbrev pub looked_up : List (List Bool) → List ℕ → Bool
+looked_up fits s = cond (nat_lt 0 (length s) && (nat_lt (length s) 17 && nat_lt (last s) 4096)) (slice_index_or (slice_index_or fits (place s) []) (last s) false) true
 
 -- the classes of a net's parts
 abbrev pub classes_on : Circuit → ℕ → List ℕ

@@ -11,17 +11,17 @@ use circuit::{Board, class_of, part_of};
 use pattern::Pattern;
 use tally::{Entry, Tally, agree};
 
-// Tallies the classes of a net's parts, and answers how many classes came.
-fn tally_net<C: Board>(c: &C, f: u16, room: &mut [Entry<u16>]) -> usize
+// Tallies the classes of a net's parts in the room that is lent for it.
+fn tally_net<'r, C: Board>(c: &C, f: u16, room: &'r mut [Entry<u16>]) -> &'r [Entry<u16>]
     requires room { length (net (C.Board.means c.now) f) ≤ length room.old }
-    ensures within { result ≤ length room.new }
-    ensures after { take result room.new ≡ tallied nat_cmp (classes_on (C.Board.means c.now) f) }
+    ensures { result.now ≡ tallied nat_cmp (classes_on (C.Board.means c.now) f) }
 {
     let mut tally = Tally::over(room);
     for k in 0..c.size(f) {
         tally.put(class_of(c, part_of(c, f, k)));
     }
-    tally.len()
+    let len = tally.len();
+    &room[..len]
 }
 
 // Whether net f of the board has, for each class, as many parts as net i of the pattern.
@@ -32,14 +32,13 @@ pub fn same_counts<B: Board>(p: &Pattern, i: u16, b: &B, f: u16) -> bool
         return false;
     }
     let none = Entry { key: 0, count: 0 };
-    let mut pattern_room: [Entry<u16>; 64] = [none; 64];
-    let mut board_room: [Entry<u16>; 64] = [none; 64];
-    let first = tally_net(p, i, &mut pattern_room);
-    let second = tally_net(b, f, &mut board_room);
-    agree(&pattern_room[0..first], &board_room[0..second])
+    agree(
+        tally_net(p, i, &mut [none; 64]),
+        tally_net(b, f, &mut [none; 64]),
+    )
 }
 
-#[derive(Clone, Copy)]
+#[derive(Clone, Copy, PartialEq, Eq, Debug)]
 pub struct CountsSieve;
 
 impl<B: Board> Sieve<B> for CountsSieve {
@@ -48,13 +47,12 @@ impl<B: Board> Sieve<B> for CountsSieve {
     fn ready(&mut self, _pattern: &Pattern, _board: &B) {}
 
     fn keep(&self, pattern: &Pattern, board: &B, start: &[u16]) -> bool {
-        let len = start.len();
-        if len == 0 {
+        let Some((last, before)) = start.split_last() else {
+            return true;
+        };
+        if before.len() >= pattern.net_count() as usize {
             return true;
         }
-        if len > pattern.net_count() as usize {
-            return true;
-        }
-        same_counts(pattern, (len - 1) as u16, board, start[len - 1])
+        same_counts(pattern, before.len() as u16, board, *last)
     }
 }

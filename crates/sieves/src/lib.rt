@@ -28,7 +28,7 @@ pub trait Sieve<B: Board> {
 }
 
 // Keeps every start.
-#[derive(Clone, Copy)]
+#[derive(Clone, Copy, PartialEq, Eq, Debug)]
 pub struct OpenSieve;
 
 impl<B: Board> Sieve<B> for OpenSieve {

@@ -1,4 +1,4 @@
-ghost use Rattle.std.specs.Prelude.{◌≡◌, ℕ, ◌+◌, ◌*◌, ◌<◌, ◌≤◌, false, List, length, Decides, slice_index_or};
+ghost use Rattle.std.specs.Prelude.{◌≡◌, ℕ, ◌<◌, ◌≤◌, false, List, [], length, Decides, slice_index_or};
 ghost use Rattle.pattern.specs.Drawn.{drawn};
 ghost use Rattle.sieves.specs.Counts.{have_same_counts, SameCounts, looked_up, place, last};
 
@@ -11,11 +11,13 @@ use pattern::Pattern;
 impl TableSieve {
     // Notes for each place and each net whether the net fits there.
     pub fn fill<B: Board>(&mut self, pattern: &Pattern, board: &B)
-        ensures entries { (i f : ℕ) → i < 16 → f < 4096 → slice_index_or self.new.fits (i * 4096 + f) false ≡ have_same_counts (drawn pattern.now) i (B.Board.means board.now) f }
+        ensures entries { (i f : ℕ) → i < 16 → f < 4096 → slice_index_or (slice_index_or self.new.fits i []) f false ≡ have_same_counts (drawn pattern.now) i (B.Board.means board.now) f }
         ensures means { (s : List ℕ) → 1 ≤ length s → length s ≤ 16 → last s < 4096 → Decides (looked_up self.new.fits s) (SameCounts (drawn pattern.now) (place s) (B.Board.means board.now) (last s)) }
     {
-        for at in 0..65536usize {
-            self.fits[at] = same_counts(pattern, (at / 4096) as u16, board, (at % 4096) as u16);
+        for (place, row) in self.fits.iter_mut().enumerate() {
+            for (net, fit) in row.iter_mut().enumerate() {
+                *fit = same_counts(pattern, place as u16, board, net as u16);
+            }
         }
     }
 }
@@ -28,14 +30,12 @@ impl<B: Board> Sieve<B> for TableSieve {
     }
 
     fn keep(&self, _pattern: &Pattern, _board: &B, start: &[u16]) -> bool {
-        if start.len() == 0 || start.len() > 16 {
+        let Some((last, before)) = start.split_last() else {
             return true;
-        }
-        let place = start.len() - 1;
-        let last = start[place] as usize;
-        if last >= 4096 {
+        };
+        let Some(row) = self.fits.get(before.len()) else {
             return true;
-        }
-        self.fits[place * 4096 + last]
+        };
+        row.get(*last as usize).copied().unwrap_or(true)
     }
 }

@@ -1,9 +1,8 @@
-use Rattle.std.proofs.Common.{◌≡◌, ℕ, ◌<◌, ◌≤◌, [], ◌∷◌, ◌++◌, map, length, get_or, take, sym, ap, ◌∙◌, arith, rules}
+use Rattle.std.proofs.Common.{◌≡◌, ℕ, ◌<◌, [], ◌∷◌, ◌++◌, map, length, get_or, take, sym, ap, ◌∙◌, arith}
 use Rattle.circuit.specs.Circuit.{net, class}
 use Rattle.tally.specs.Tallies.{tallied}
 use Rattle.tally.proofs.Counts.{put_more}
-use Rattle.sieves.specs.Counts.{classes_on}
-use Rattle.sieves.proofs.Tallied.{so_far_more, so_far_room, so_far_all}
+use Rattle.sieves.proofs.Tallied.{so_far_more, so_far_room}
 use Rattle.sieves.proofs.counts.tally_net.Goals as goal
 use Rattle.std.specs.Ordering.{nat_cmp}
 
@@ -25,12 +24,3 @@ loop-k-preserved g c =
           ∙ ap (λ (x : ℕ). tallied nat_cmp (map (class m) (take k (net m f)) ++ x ∷ [])) cls
           ∙ ap (tallied nat_cmp) (sym (so_far_more m f k h)),
     )
-
-pub returns : goal.returns
-returns g c =
-    let m = g.C.Board.means c.args.c.now in
-    let f = c.args.f in
-    let inv = c.loop-k.invariant in
-    let h : length (net m f) ≤ c.loop-k.k = omega arith in
-    let all : take c.loop-k.tally.len c.loop-k.tally.entries.now ≡ tallied nat_cmp (classes_on m f) = inv.2 ∙ ap (tallied nat_cmp) (so_far_all m f c.loop-k.k h) in
-    search rules

@@ -4,12 +4,12 @@ use Rattle.promise.specs.Search.{raise}
 use Rattle.search.specs.Held.{held}
 use Rattle.search.proofs.bookmark.Search.climb.Given as goal
 
-abbrev pub invariant-loop-self : goal.invariant-loop-self
-invariant-loop-self l =
-    (raise l.nets (held l.self) ≡ raise l.nets (held l.initial.self))
+abbrev pub invariant-loop-last : goal.invariant-loop-last
+invariant-loop-last l =
+    (raise l.span.nets (held l.self) ≡ raise l.span.nets (held l.initial.self))
     × (l.self.len ≤ l.initial.self.len)
-    × AllBelow l.nets (held l.self)
+    × AllBelow l.span.nets (held l.self)
     × (length l.self.levels ≡ 16)
 
-abbrev pub decreases-loop-self : goal.decreases-loop-self
-decreases-loop-self l = l.self.len
+abbrev pub decreases-loop-last : goal.decreases-loop-last
+decreases-loop-last l = l.self.len

@@ -1,50 +1,85 @@
 -- A call of next does what `Next` says.
-use Rattle.std.proofs.Common.{◌≡◌, ℕ, ◌+◌, ◌<◌, ◌≤◌, true, false, ◌⊎◌, length, sym, refl, ap, ◌∙◌, subst, inl, inr, add-one, arith}
-use Rattle.promise.specs.Search.{Quiet}
+use Rattle.std.proofs.Common.{◌≡◌, ℕ, ◌+◌, ◌-◌, ◌<◌, ◌≤◌, true, false, ◌⊎◌, length, sym, refl, ap, ◌∙◌, subst, inl, inr, add-one, arith, rules}
+use Rattle.promise.specs.Search.{Quiet, InRange}
 use Rattle.promise.specs.Hits.{passing}
 use Rattle.pattern.specs.Drawn.{drawn}
 use Rattle.pattern.specs.Kept.{drawn_sound, nets_some}
-use Rattle.search.specs.Held.{held, standing, bookmark, is_start, rules}
+use Rattle.search.specs.Held.{held, standing, bookmark, is_start, rules as sought}
 use Rattle.promise.proofs.Lawful.{called}
 use Rattle.search.proofs.Raised.{raise_moves}
 use Rattle.search.proofs.Stands.{held_long, standing_some, standing_none, start_sits, sits_bookmark, one_more, at_no_end, not_found, called_at, no_start}
+use Rattle.search.proofs.bookmark.Search.next.Given.{Over}
 use Rattle.search.proofs.bookmark.Search.next.Goals as goal
-use Rattle.search.proofs.bookmark.Search.next.Goals.{else-pass-via-then-pass+else-self-m, else-pass-via-else-pass}
+use Rattle.search.proofs.bookmark.Search.next.Goals.{After-passes-pass, After-advance-in-loop-made, After-of-span, else-pass-via-then-pass+else-self-span, else-pass-via-else-pass}
+
+-- the budget is in range
+in_range : (g : Over) (c : After-of-span g) → InRange c.args.budget
+in_range g c = search rules
+
+-- a start passes as the meanings of the pattern, the board and the sieve say
+passed : (g : Over) (c : After-passes-pass g) → let p = drawn c.args.pattern.now in let b = g.B.Board.means c.args.board.now in
+    c.passes-pass.result ≡ passing p b (g.S.Sieve.keeps c.args.sieve.now p b) (held c.loop-made.self)
+passed g c =
+    let value = c.passes-pass.ensures.value in
+    let held-is = c.numbers-numbers.ensures in
+    let pattern = c.loop-made.invariant.4 in
+    let board = c.loop-made.invariant.5 in
+    let sieve = c.loop-made.invariant.6 in
+    cc
+
+-- one more try that is no hit
+tried : (g : Over) (c : After-advance-in-loop-made g) → let p = drawn c.args.pattern.now in let b = g.B.Board.means c.args.board.now in let m = c.of-span.result.m in let n = c.of-span.result.nets in
+    c.passes-pass.result ≡ passing p b (g.S.Sieve.keeps c.args.sieve.now p b) (held c.loop-made.self)
+    → Quiet (sought m n (passing p b (g.S.Sieve.keeps c.args.sieve.now p b))) c.loop-made.made (bookmark m n c.args.self.now) (standing (held c.advance-in-loop-made.new.self))
+tried g c pass-is =
+    let p = drawn c.args.pattern.now in
+    let b = g.B.Board.means c.args.board.now in
+    let P = passing p b (g.S.Sieve.keeps c.args.sieve.now p b) in
+    let m = c.of-span.result.m in
+    let n = c.of-span.result.nets in
+    let q = c.loop-made.self in
+    let inv = c.loop-made.invariant in
+    let k = bookmark m n c.args.self.now in
+    let pass = c.passes-pass.result in
+    let long : length (held q) ≡ q.len = held_long q (omega (arith, inv.1.few)) in
+    let once : c.loop-made.made - 1 + 1 ≡ c.loop-made.made = omega arith in
+    let why : (pass ≡ false) ⊎ (length (held q) ≡ m → ⊥) =
+    elim c.else-pass.branch
+    [ else-pass-via-then-pass+else-self-span w ↦ inr (λ e. w.if-self-span.false (sym long ∙ e)) | else-pass-via-else-pass w ↦ inl w.if-pass.false ]
+    in
+    subst (λ i. Quiet (sought m n P) i k (standing (held c.advance-in-loop-made.new.self))) once
+    (one_more m n P (c.loop-made.made - 1) k (held q) (held c.advance-in-loop-made.new.self) pass (omega arith) inv.0 pass-is (not_found m n P (held q) pass pass-is why) c.advance-in-loop-made.ensures.stands)
 
 pub loop-made-init : goal.loop-made-init
 loop-made-init g c =
     let q = c.args.self.now in
-    let m = c.net_count-m.result in
-    let n = c.nets_of-nets.result in
-    let e : is_start m n q ≡ true = sym c.if-not-is_start.ensures in
-    let w = start_sits m n q e in
-    (sits_bookmark m n q w.0 (omega (arith, w.0.few)), w.0, w.1, refl, omega arith)
+    let w = start_sits c.of-span.result.m c.of-span.result.nets q (sym c.if-not-is_start.ensures) in
+    (sits_bookmark c.of-span.result.m c.of-span.result.nets q w.0 (omega (arith, w.0.few)), w.0, w.1, refl, refl, refl, refl)
 
-pub returns-then-self-m : goal.returns-then-self-m
-returns-then-self-m g c =
+pub returns-then-self-span : goal.returns-then-self-span
+returns-then-self-span g c =
     let p = drawn c.args.pattern.now in
     let b = g.B.Board.means c.args.board.now in
     let keeps = g.S.Sieve.keeps c.args.sieve.now p b in
-    let m = c.net_count-m.result in
-    let n = c.nets_of-nets.result in
+    let m = c.of-span.result.m in
+    let n = c.of-span.result.nets in
     let q = c.loop-made.self in
-    let inv = c.loop-made.invariant in
-    let small : q.len ≤ 16 = omega (arith, inv.1.few) in
-    let long : length (held q) ≡ q.len = held_long q small in
-    let is_m : q.len ≡ m = c.if-self-m.true in
     let q' = c.advance.new.self in
-    let pass-is : c.passes-pass.result ≡ passing p b keeps (held q) = c.passes-pass.ensures ∙ ap (passing p b keeps) c.numbers-numbers.ensures in
-    called_at p b (drawn_sound c.args.pattern.now) (g.B.Board.sound c.args.board.now) keeps m n c.net_count-m.ensures.value c.nets_of-nets.ensures.value (omega arith)
+    let inv = c.loop-made.invariant in
+    let long : length (held q) ≡ q.len = held_long q (omega (arith, inv.1.few)) in
+    let is_m : q.len ≡ m = c.if-self-span.true in
+    let once : c.loop-made.made ≡ c.loop-made.made - 1 + 1 = omega arith in
+    called_at p b (drawn_sound c.args.pattern.now) (g.B.Board.sound c.args.board.now) keeps m n c.of-span.ensures.m c.of-span.ensures.nets (omega arith)
     c.args.self.now _ _ _ q' _ (
-      (omega arith, omega arith),
+      in_range g (goal.at.returns-then-self-span g c).After-of-span,
       omega arith,
       (
-        c.loop-made.made,
+        c.loop-made.made - 1,
         held q,
-        add-one c.loop-made.made,
+        once ∙ add-one (c.loop-made.made - 1),
         omega arith,
-        subst (Quiet (rules m n (passing p b keeps)) c.loop-made.made (bookmark m n c.args.self.now)) (standing_some (held q) (omega arith)) inv.0,
-        (sym pass-is ∙ c.if-pass.true, long ∙ is_m),
+        subst (Quiet (sought m n (passing p b keeps)) (c.loop-made.made - 1) (bookmark m n c.args.self.now)) (standing_some (held q) (omega arith)) inv.0,
+        (sym (passed g (goal.at.returns-then-self-span g c).After-passes-pass) ∙ c.if-pass.true, long ∙ is_m),
         sits_bookmark m n q' c.advance.ensures.sits (omega (arith, c.advance.ensures.sits.few)) ∙ c.advance.ensures.stands ∙ sym (raise_moves m n c.passes-pass.result (held q) (inr (omega arith))),
         let copied = c.copy_from_slice.ensures.after in let same = inv.3 in let held-is = c.numbers-numbers.ensures in cc,
       ),
@@ -55,115 +90,83 @@ returns-then-self-eq0 g c =
     let p = drawn c.args.pattern.now in
     let b = g.B.Board.means c.args.board.now in
     let keeps = g.S.Sieve.keeps c.args.sieve.now p b in
-    let m = c.net_count-m.result in
-    let n = c.nets_of-nets.result in
-    let q = c.loop-made.self in
-    let inv = c.loop-made.invariant in
-    let small : q.len ≤ 16 = omega (arith, inv.1.few) in
-    let long : length (held q) ≡ q.len = held_long q small in
+    let m = c.of-span.result.m in
+    let n = c.of-span.result.nets in
     let q' = c.advance-in-loop-made.new.self in
-    let pass-is : c.passes-pass.result ≡ passing p b keeps (held q) = c.passes-pass.ensures ∙ ap (passing p b keeps) c.numbers-numbers.ensures in
     let none : standing (held q') ≡ _ = standing_none q'.len _ c.if-self-eq0.true in
-    let why : (c.passes-pass.result ≡ false) ⊎ (length (held q) ≡ m → ⊥) =
-    elim c.else-pass.branch
-    [ else-pass-via-then-pass+else-self-m w ↦ inr (λ e. w.if-self-m.false (sym long ∙ e)) | else-pass-via-else-pass w ↦ inl w.if-pass.false ]
-    in
-    called_at p b (drawn_sound c.args.pattern.now) (g.B.Board.sound c.args.board.now) keeps m n c.net_count-m.ensures.value c.nets_of-nets.ensures.value (omega arith)
+    called_at p b (drawn_sound c.args.pattern.now) (g.B.Board.sound c.args.board.now) keeps m n c.of-span.ensures.m c.of-span.ensures.nets (omega arith)
     c.args.self.now _ _ _ q' _ (
-      (omega arith, omega arith),
+      in_range g (goal.at.returns-then-self-eq0 g c).After-of-span,
       omega arith,
       omega arith,
-      subst (Quiet (rules m n (passing p b keeps)) (c.loop-made.made + 1) (bookmark m n c.args.self.now)) none
-          (one_more m n (passing p b keeps) c.loop-made.made (bookmark m n c.args.self.now) (held q) (held q') c.passes-pass.result (omega arith) inv.0 pass-is
-          (not_found m n (passing p b keeps) (held q) c.passes-pass.result pass-is why) c.advance-in-loop-made.ensures.stands),
+      subst (Quiet (sought m n (passing p b keeps)) c.loop-made.made (bookmark m n c.args.self.now)) none (tried g (goal.at.returns-then-self-eq0 g c).After-advance-in-loop-made (passed g (goal.at.returns-then-self-eq0 g c).After-passes-pass)),
       sits_bookmark m n q' c.advance-in-loop-made.ensures.sits (omega (arith, c.advance-in-loop-made.ensures.sits.few)) ∙ none,
-      inv.3,
+      c.loop-made.invariant.3,
     )
 
 pub loop-made-preserved : goal.loop-made-preserved
 loop-made-preserved g c =
     let p = drawn c.args.pattern.now in
     let b = g.B.Board.means c.args.board.now in
-    let keeps = g.S.Sieve.keeps c.args.sieve.now p b in
-    let m = c.net_count-m.result in
-    let n = c.nets_of-nets.result in
-    let q = c.loop-made.self in
+    let m = c.of-span.result.m in
+    let n = c.of-span.result.nets in
     let inv = c.loop-made.invariant in
-    let small : q.len ≤ 16 = omega (arith, inv.1.few) in
-    let long : length (held q) ≡ q.len = held_long q small in
-    let q' = c.advance-in-loop-made.new.self in
-    let pass-is : c.passes-pass.result ≡ passing p b keeps (held q) = c.passes-pass.ensures ∙ ap (passing p b keeps) c.numbers-numbers.ensures in
-    let why : (c.passes-pass.result ≡ false) ⊎ (length (held q) ≡ m → ⊥) =
-    elim c.else-pass.branch
-    [ else-pass-via-then-pass+else-self-m w ↦ inr (λ e. w.if-self-m.false (sym long ∙ e)) | else-pass-via-else-pass w ↦ inl w.if-pass.false ]
-    in (
-      one_more m n (passing p b keeps) c.loop-made.made (bookmark m n c.args.self.now) (held q) (held q') c.passes-pass.result (omega arith) inv.0 pass-is
-          (not_found m n (passing p b keeps) (held q) c.passes-pass.result pass-is why) c.advance-in-loop-made.ensures.stands,
+    let same = c.passes-pass.ensures in
+    let once : c.loop-made.made ≡ c.loop-made.made + 1 - 1 = omega arith in (
+      subst (λ i. Quiet (sought m n (passing p b (g.S.Sieve.keeps c.args.sieve.now p b))) i (bookmark m n c.args.self.now) (standing (held c.advance-in-loop-made.new.self))) once
+          (tried g (goal.at.loop-made-preserved g c).After-advance-in-loop-made (passed g (goal.at.loop-made-preserved g c).After-passes-pass)),
       c.advance-in-loop-made.ensures.sits,
       omega arith,
       inv.3,
-      omega arith,
+      ap (λ r. r.now) same.pattern ∙ inv.4,
+      ap (λ r. r.now) same.board ∙ inv.5,
+      ap (λ r. r.now) same.sieve ∙ inv.6,
     )
 
-pub returns : goal.returns
-returns g c =
+pub returns-else-self-eq0 : goal.returns-else-self-eq0
+returns-else-self-eq0 g c =
     let p = drawn c.args.pattern.now in
     let b = g.B.Board.means c.args.board.now in
     let keeps = g.S.Sieve.keeps c.args.sieve.now p b in
-    let m = c.net_count-m.result in
-    let n = c.nets_of-nets.result in
-    let q = c.loop-made.self in
-    let inv = c.loop-made.invariant in
-    let small : q.len ≤ 16 = omega (arith, inv.1.few) in
-    let long : length (held q) ≡ q.len = held_long q small in
-    let mark = sits_bookmark m n q inv.1 small in
+    let m = c.of-span.result.m in
+    let n = c.of-span.result.nets in
+    let q' = c.advance-in-loop-made.new.self in
+    let sits = c.advance-in-loop-made.ensures.sits in
+    let mark = sits_bookmark m n q' sits (omega (arith, sits.few)) in
     let spent : c.loop-made.made ≡ c.args.budget = omega arith in
     let k = bookmark m n c.args.self.now in
-    called_at p b (drawn_sound c.args.pattern.now) (g.B.Board.sound c.args.board.now) keeps m n c.net_count-m.ensures.value c.nets_of-nets.ensures.value (omega arith)
-    c.args.self.now _ _ _ q _ (
-      (omega arith, omega arith),
+    let long : length (held q') ≡ q'.len = held_long q' (omega (arith, sits.few)) in
+    called_at p b (drawn_sound c.args.pattern.now) (g.B.Board.sound c.args.board.now) keeps m n c.of-span.ensures.m c.of-span.ensures.nets (omega arith)
+    c.args.self.now _ _ _ q' _ (
+      in_range g (goal.at.returns-else-self-eq0 g c).After-of-span,
       omega arith,
-      spent,
-      subst (λ i. Quiet (rules m n (passing p b keeps)) i k (bookmark m n q)) spent (subst (Quiet (rules m n (passing p b keeps)) c.loop-made.made k) (sym mark) inv.0),
-      at_no_end (bookmark m n q) (held q) (mark ∙ standing_some (held q) (omega arith)),
-      inv.3,
+      refl,
+      subst (λ i. Quiet (sought m n (passing p b keeps)) i k (bookmark m n q')) spent (subst (Quiet (sought m n (passing p b keeps)) c.loop-made.made k) (sym mark) (tried g (goal.at.returns-else-self-eq0 g c).After-advance-in-loop-made (passed g (goal.at.returns-else-self-eq0 g c).After-passes-pass))),
+      at_no_end (bookmark m n q') (held q') (mark ∙ standing_some (held q') (omega arith)),
+      c.loop-made.invariant.3,
     )
 
-pub returns-then-budget-lt1 : goal.returns-then-budget-lt1
-returns-then-budget-lt1 g c =
+pub returns-then-not-contains : goal.returns-then-not-contains
+returns-then-not-contains g c =
     let p = drawn c.args.pattern.now in
     let b = g.B.Board.means c.args.board.now in
-    let keeps = g.S.Sieve.keeps c.args.sieve.now p b in
-    called p b (drawn_sound c.args.pattern.now) (g.B.Board.sound c.args.board.now) keeps (nets_some c.args.pattern.now) _ _ _ _ _ _
-    (inl (refl, λ r. out r c.then-budget-lt1.either), refl, refl, refl)
-  where
-    out : {n : ℕ} → (1 ≤ n) × (n ≤ 1_000_000) → (n < 1) ⊎ ((1 ≤ n) × (1_000_000 < n)) → ⊥
-    out r (inl l) = let low = r.0 in omega arith
-    out r (inr l) = let high = r.1 in omega arith
+    called p b (drawn_sound c.args.pattern.now) (g.B.Board.sound c.args.board.now) (g.S.Sieve.keeps c.args.sieve.now p b) (nets_some c.args.pattern.now) _ _ _ _ _ _
+    (inl (refl, λ r. search rules), refl, refl, refl)
 
-pub returns-then-row-m : goal.returns-then-row-m
-returns-then-row-m g c =
+pub returns-then-row-span : goal.returns-then-row-span
+returns-then-row-span g c =
     let p = drawn c.args.pattern.now in
     let b = g.B.Board.means c.args.board.now in
-    let keeps = g.S.Sieve.keeps c.args.sieve.now p b in
-    called p b (drawn_sound c.args.pattern.now) (g.B.Board.sound c.args.board.now) keeps (nets_some c.args.pattern.now) _ _ _ _ _ _
-    (inr (refl, (omega arith, omega arith), omega (arith, c.net_count-m.ensures.value)), refl, refl, refl)
+    called p b (drawn_sound c.args.pattern.now) (g.B.Board.sound c.args.board.now) (g.S.Sieve.keeps c.args.sieve.now p b) (nets_some c.args.pattern.now) _ _ _ _ _ _
+    (inr (refl, in_range g (goal.at.returns-then-row-span g c).After-of-span, omega (arith, c.of-span.ensures.m)), refl, refl, refl)
 
 pub returns-then-not-is_start : goal.returns-then-not-is_start
 returns-then-not-is_start g c =
     let p = drawn c.args.pattern.now in
     let b = g.B.Board.means c.args.board.now in
-    let keeps = g.S.Sieve.keeps c.args.sieve.now p b in
-    let m = c.net_count-m.result in
-    let n = c.nets_of-nets.result in
+    let m = c.of-span.result.m in
+    let n = c.of-span.result.nets in
     let q = c.args.self.now in
     let gone = no_start m n q (sym c.if-not-is_start.ensures) in
-    called_at p b (drawn_sound c.args.pattern.now) (g.B.Board.sound c.args.board.now) keeps m n c.net_count-m.ensures.value c.nets_of-nets.ensures.value (omega arith)
-    q _ _ _ q _ (
-      (omega arith, omega arith),
-      omega arith,
-      omega arith,
-      gone,
-      gone,
-      refl,
-    )
+    called_at p b (drawn_sound c.args.pattern.now) (g.B.Board.sound c.args.board.now) (g.S.Sieve.keeps c.args.sieve.now p b) m n c.of-span.ensures.m c.of-span.ensures.nets (omega arith)
+    q _ _ _ q _ (in_range g (goal.at.returns-then-not-is_start g c).After-of-span, omega arith, omega arith, gone, gone, refl)

@@ -9,11 +9,10 @@ abbrev pub invariant-loop-made : goal.invariant-loop-made
 invariant-loop-made g l =
     let p = drawn l.pattern in
     let b = g.B.Board.means l.board in
-    Quiet (rules l.m l.nets (passing p b (g.S.Sieve.keeps l.sieve p b))) l.made (bookmark l.m l.nets l.initial.self) (standing (held l.self))
-    × Sits l.m l.nets l.self
+    Quiet (rules l.span.m l.span.nets (passing p b (g.S.Sieve.keeps l.sieve p b))) (l.made - 1) (bookmark l.span.m l.span.nets l.initial.self) (standing (held l.self))
+    × Sits l.span.m l.span.nets l.self
     × (0 < l.self.len)
     × (l.row ≡ l.initial.row)
-    × (l.made ≤ l.budget)
-
-abbrev pub decreases-loop-made : goal.decreases-loop-made
-decreases-loop-made g l = l.budget - l.made
+    × (l.tries.pattern.now ≡ l.pattern)
+    × (l.tries.board.now ≡ l.board)
+    × (l.tries.sieve.now ≡ l.sieve)
