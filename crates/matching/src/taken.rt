@@ -49,7 +49,7 @@ impl<'a> Taken<'a> {
         ensures { result ≡ first (λ v. (slice_index self.now.bytes.now v == 0) && in_cell (B.Board.means board.now.circuit.now) board.now.start.now cell.class cell.mask v) (length (B.Board.means board.now.circuit.now).classes) }
     {
         for v in 0..board.parts() {
-            if self.bytes[v as usize] == 0 && board.cell(v) == cell {
+            if self.bytes[v as usize] == 0 && board.in_cell(v, cell) {
                 return Some(v);
             }
         }
