@@ -1,6 +1,6 @@
 -- The levels of a search: raised and tested one by one.
 use Rattle.std.proofs.Common.{◌≡◌, ℕ, zero, suc, ◌+◌, ◌<◌, ◌≤◌, Bool, true, false, ◌&&◌, ltb, ◌⊎◌, List, [], ◌∷◌, ◌++◌, length, get_or, take, set, sym, refl, ap, ◌∙◌, subst, inl, inr, arith}
-use Rattle.std.proofs.lemmas.Bool.{cond-true, cond-false, ltb-true, cond_both, lt-ltb, le-ltb, and_parts, and_from, and_left, and_right}
+use Rattle.std.proofs.lemmas.Bool.{cond-true, cond-false, cond_both, lt-ltb, le-ltb}
 use Rattle.std.proofs.lemmas.List.{take_more, take_more_set, length-take-le}
 use Rattle.circuit.specs.Circuit.{AllBelow, are_below}
 use Rattle.promise.specs.Order.{at}

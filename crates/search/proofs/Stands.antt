@@ -1,5 +1,5 @@
 -- What the levels of a search say of its bookmark, and one more try of a call.
-use Rattle.std.proofs.Common.{◌≡◌, ℕ, zero, suc, ◌+◌, ◌<◌, ◌≤◌, Bool, true, false, cond, ◌&&◌, ltb, leb, ◌⊎◌, List, [], ◌∷◌, length, take, sym, refl, ap, ◌∙◌, subst, subst₂, inl, inr, add-one, arith}
+use Rattle.std.proofs.Common.{◌≡◌, ℕ, suc, ◌+◌, ◌<◌, ◌≤◌, Bool, true, false, ◌&&◌, ltb, leb, ◌⊎◌, List, [], ◌∷◌, length, take, sym, refl, ap, ◌∙◌, subst, subst₂, inl, inr, add-one, arith}
 use Rattle.std.proofs.lemmas.Bool.{cond-true, cond-false, ltb-true, leb-true, lt-ltb, le-leb, le-ltb, and_parts, and_from, and_left, cases_lt, both_ways}
 use Rattle.std.proofs.lemmas.List.{length-take-le, nil_from_length}
 use Rattle.circuit.specs.Circuit.{Circuit, N, Sound, are_below}

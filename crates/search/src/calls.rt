@@ -84,7 +84,7 @@ impl Search {
         }
     }
 
-    // Looks for the next hit, in at most `budget` tries.
+    // Looks for the next hit, in at most `budget` tries. A search holds neither pattern, board nor sieve: each call is lent them anew.
     pub fn next<B: Board, S: Sieve<B>>(
         &mut self,
         pattern: &Pattern,

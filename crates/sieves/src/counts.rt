@@ -17,6 +17,7 @@ fn tally_net<'r, C: Board>(c: &C, f: u16, room: &'r mut [Entry<u16>]) -> &'r [En
     ensures { result.now ≡ tallied nat_cmp (classes_on (C.Board.means c.now) f) }
 {
     let mut tally = Tally::over(room);
+    // A board answers part by part, so there is no slice of parts to go through.
     for k in 0..c.size(f) {
         tally.put(class_of(c, part_of(c, f, k)));
     }

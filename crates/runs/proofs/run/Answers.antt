@@ -1,5 +1,5 @@
 -- Opening, then call after call.
-use Rattle.std.proofs.Common.{List, [], Ok, sym, refl, subst₂, arith}
+use Rattle.std.proofs.Common.{List, [], Ok, refl, subst₂, arith}
 use Rattle.std.proofs.lemmas.List.{take_all}
 use Rattle.circuit.specs.Circuit.{N}
 use Rattle.promise.specs.Search.{opening}
@@ -11,9 +11,6 @@ use Rattle.runs.specs.declared.call.Call.{Call}
 use Rattle.runs.specs.Whole.{Through}
 use Rattle.runs.proofs.Joined.{step, whole}
 use Rattle.runs.proofs.run.Goals as goal
-
-pub loop-call-init : goal.loop-call-init
-loop-call-init g c = (sym c.open-search.ensures.stands, refl)
 
 pub loop-call-preserved : goal.loop-call-preserved
 loop-call-preserved g c =

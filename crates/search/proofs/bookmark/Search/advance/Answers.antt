@@ -1,11 +1,11 @@
-use Rattle.std.proofs.Common.{ℕ, ◌+◌, ◌<◌, List, length, take, sym, ap, ◌∙◌, subst, inl, inr, arith}
+use Rattle.std.proofs.Common.{ℕ, ◌+◌, ◌<◌, List, length, take, sym, ap, ◌∙◌, subst, arith}
 use Rattle.circuit.specs.Circuit.{AllBelow}
 use Rattle.promise.proofs.Steps.{some_net}
 use Rattle.search.specs.Held.{held, nets, standing}
 use Rattle.search.specs.declared.bookmark.Level.{Level}
 use Rattle.std.proofs.lemmas.List.{length-map, map-set}
 use Rattle.search.proofs.Stands.{held_long}
-use Rattle.search.proofs.Raised.{push_moves, push_below, raise_moves, climb_below}
+use Rattle.search.proofs.Raised.{push_moves, push_below, climb_below}
 use Rattle.search.proofs.bookmark.Search.advance.Goals as goal
 use Rattle.search.proofs.bookmark.Search.advance.Goals.{else-pass-via-then-pass+else-self-span, else-pass-via-else-pass}
 
@@ -23,14 +23,8 @@ returns-then-self-span c =
       sits = record { few = omega arith; below = subst (λ (ns : List ℕ). AllBelow c.args.span.nets (take (q.len + 1) ns)) (sym same) (push_below c.args.span.nets (nets q.levels) q.len within some s.below) };
     }
 
-pub returns-else-pass : goal.returns-else-pass
-returns-else-pass c =
+pub returns-else-pass-clause-sits : goal.returns-else-pass-clause-sits
+returns-else-pass-clause-sits c =
     let q = c.args.self.now in
     let s = c.requires.0 in
-    let long = held_long q (omega (arith, s.few)) in
-    record {
-      stands = c.climb.ensures.stands ∙ raise_moves c.args.span.m c.args.span.nets c.args.pass (held q)
-          (elim c.else-pass.branch
-          [ else-pass-via-then-pass+else-self-span w ↦ inr (omega (arith, w.if-self-span.false, long)) | else-pass-via-else-pass w ↦ inl w.if-pass.false ]);
-      sits = record { few = omega (arith, s.few, c.climb.ensures.few); below = climb_below c.args.span.nets (held q) (held c.climb.new.self) s.below c.climb.ensures.stands };
-    }
+    record { few = omega (arith, s.few, c.climb.ensures.few); below = climb_below c.args.span.nets (held q) (held c.climb.new.self) s.below c.climb.ensures.stands }

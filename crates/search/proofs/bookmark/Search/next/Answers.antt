@@ -1,10 +1,10 @@
 -- A call of next does what `Next` says.
-use Rattle.std.proofs.Common.{◌≡◌, ℕ, ◌+◌, ◌-◌, ◌<◌, ◌≤◌, true, false, ◌⊎◌, length, sym, refl, ap, ◌∙◌, subst, inl, inr, add-one, arith, rules}
+use Rattle.std.proofs.Common.{◌≡◌, ◌+◌, ◌-◌, false, ◌⊎◌, length, sym, refl, ap, ◌∙◌, subst, inl, inr, add-one, arith, rules}
 use Rattle.promise.specs.Search.{Quiet, InRange}
 use Rattle.promise.specs.Hits.{passing}
 use Rattle.pattern.specs.Drawn.{drawn}
 use Rattle.pattern.specs.Kept.{drawn_sound, nets_some}
-use Rattle.search.specs.Held.{held, standing, bookmark, is_start, rules as sought}
+use Rattle.search.specs.Held.{held, standing, bookmark, rules as sought}
 use Rattle.promise.proofs.Lawful.{called}
 use Rattle.search.proofs.Raised.{raise_moves}
 use Rattle.search.proofs.Stands.{held_long, standing_some, standing_none, start_sits, sits_bookmark, one_more, at_no_end, not_found, called_at, no_start}

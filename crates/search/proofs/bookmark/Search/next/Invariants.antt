@@ -1,4 +1,4 @@
-use Rattle.std.proofs.Common.{◌≡◌, ◌-◌, ◌<◌, ◌≤◌}
+use Rattle.std.proofs.Common.{◌≡◌, ◌-◌, ◌<◌}
 use Rattle.promise.specs.Search.{Quiet}
 use Rattle.promise.specs.Hits.{passing}
 use Rattle.pattern.specs.Drawn.{drawn}
