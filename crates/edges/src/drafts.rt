@@ -90,6 +90,14 @@ impl Tables {
         Ok(())
     }
 
+    pub fn lend(&self) -> tables::Tables<'_> {
+        tables::Tables {
+            classes: &self.classes,
+            ends: &self.ends,
+            joins: &self.joins,
+        }
+    }
+
     // The tables that a board answers from.
     pub fn read<B: Board>(heap: Global, board: &B) -> anyhow::Result<Tables> {
         let mut tables = Tables::empty(heap);

@@ -67,8 +67,8 @@ static BARE_QUESTIONS: [Question; 6] = [
 fn show_case(rt: &HostRuntime, case: &Case) -> anyhow::Result<()> {
     let name = case.name;
     let tables = Tables::drawn(rt.alloc(), &case.draft)?;
-    let answer = check(&tables.classes, &tables.ends, &tables.joins);
-    let board = FlatBoard::make(&tables.classes, &tables.ends, &tables.joins);
+    let answer = check(tables.lend());
+    let board = FlatBoard::make(tables.lend());
     let verdict = Verdict(answer);
     let parts = board.parts();
     let nets = board.nets();
@@ -95,14 +95,14 @@ fn show_questions(
     questions: &[Question],
 ) -> anyhow::Result<()> {
     let tables = Tables::drawn(rt.alloc(), draft)?;
-    let board = FlatBoard::make(&tables.classes, &tables.ends, &tables.joins);
+    let board = FlatBoard::make(tables.lend());
     ask_all(rt, name, &board, questions)
 }
 
 // The lists of some nets, and where they begin.
 fn show_nets(rt: &HostRuntime, name: &str, draft: &Draft, nets: &[u16]) -> anyhow::Result<()> {
     let tables = Tables::drawn(rt.alloc(), draft)?;
-    let board = FlatBoard::make(&tables.classes, &tables.ends, &tables.joins);
+    let board = FlatBoard::make(tables.lend());
     for net in nets {
         let list = board.net(*net);
         let place = list.place;

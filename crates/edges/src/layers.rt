@@ -55,7 +55,7 @@ fn run_steps<B: Board>(
 
 fn run_script(rt: &HostRuntime, script: &Script) -> anyhow::Result<()> {
     let tables = Tables::drawn(rt.alloc(), &script.board)?;
-    let board = FlatBoard::make(&tables.classes, &tables.ends, &tables.joins);
+    let board = FlatBoard::make(tables.lend());
     let mut layer = Blanking::over(board);
     let name = format!(in rt.alloc(); "layer, {}", script.name)?;
     run_steps(rt, name.as_str(), &mut layer, script.steps)
@@ -70,7 +70,7 @@ fn run_scripts(rt: &HostRuntime, scripts: &[Script]) -> anyhow::Result<()> {
 
 fn show_lent(rt: &HostRuntime) -> anyhow::Result<()> {
     let tables = Tables::drawn(rt.alloc(), &SMALL)?;
-    let board = FlatBoard::make(&tables.classes, &tables.ends, &tables.joins);
+    let board = FlatBoard::make(tables.lend());
     let mut layer = Blanking::over(&board);
     run_steps(rt, "layer over a lent board", &mut layer, &LENT)?;
     ask_all(rt, "lent board", &board, &SIZES)
@@ -79,7 +79,7 @@ fn show_lent(rt: &HostRuntime) -> anyhow::Result<()> {
 // The layer above owns the one below.
 fn show_owned_layer(rt: &HostRuntime) -> anyhow::Result<()> {
     let tables = Tables::drawn(rt.alloc(), &SMALL)?;
-    let board = FlatBoard::make(&tables.classes, &tables.ends, &tables.joins);
+    let board = FlatBoard::make(tables.lend());
     let mut below = Blanking::over(board);
     run_steps(rt, "layer below", &mut below, &BELOW)?;
     let mut above = Blanking::over(below);
@@ -88,7 +88,7 @@ fn show_owned_layer(rt: &HostRuntime) -> anyhow::Result<()> {
 
 fn show_lent_layer(rt: &HostRuntime) -> anyhow::Result<()> {
     let tables = Tables::drawn(rt.alloc(), &SMALL)?;
-    let board = FlatBoard::make(&tables.classes, &tables.ends, &tables.joins);
+    let board = FlatBoard::make(tables.lend());
     let mut below = Blanking::over(board);
     run_steps(rt, "lent layer below", &mut below, &BELOW)?;
     let mut above = Blanking::over(&below);

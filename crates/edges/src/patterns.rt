@@ -31,9 +31,9 @@ fn show_case(rt: &HostRuntime, case: &Case, before: &Tables) -> anyhow::Result<(
     let name = case.name;
     let tables = Tables::drawn(rt.alloc(), &case.draft)?;
     let mut pattern = Pattern::smallest();
-    let _ = pattern.make(&before.classes, &before.ends, &before.joins);
-    let checked = check(&tables.classes, &tables.ends, &tables.joins);
-    let made = pattern.make(&tables.classes, &tables.ends, &tables.joins);
+    let _ = pattern.make(before.lend());
+    let checked = check(tables.lend());
+    let made = pattern.make(tables.lend());
     let word = match made {
         Ok(()) => drawn_or_not(answers_as(&pattern, &tables)),
         Err(_) => kept_or_altered(answers_as(&pattern, before)),
