@@ -78,6 +78,7 @@ impl<B: Board> Board for Blanking<B> {
         self.board.parts()
     }
 
+    #[tactic(auto, using(crate::specs::Blank::blanked_length))]
     fn nets(&self) -> u16 {
         self.board.nets()
     }
@@ -86,6 +87,7 @@ impl<B: Board> Board for Blanking<B> {
         self.board.class(v)
     }
 
+    #[tactic(auto, using(crate::proofs::Marks::hidden, crate::proofs::Marks::shown))]
     fn size(&self, f: u16) -> u16 {
         if self.is_blank(f) {
             0
@@ -94,6 +96,7 @@ impl<B: Board> Board for Blanking<B> {
         }
     }
 
+    #[tactic(auto, using(crate::proofs::Marks::hidden, crate::proofs::Marks::shown))]
     fn part(&self, f: u16, k: u16) -> Option<u16> {
         if self.is_blank(f) {
             None
@@ -102,6 +105,7 @@ impl<B: Board> Board for Blanking<B> {
         }
     }
 
+    #[tactic(auto, using(crate::proofs::Marks::hidden, crate::proofs::Marks::shown))]
     fn on(&self, v: u16, f: u16) -> bool {
         !self.is_blank(f) && self.board.on(v, f)
     }

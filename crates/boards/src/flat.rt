@@ -78,6 +78,7 @@ impl<'a> Board for FlatBoard<'a> {
         self.tables.classes.len() as u16
     }
 
+    #[tactic(auto, using(tables::specs::Cuts::cuts_length))]
     fn nets(&self) -> u16 {
         self.tables.ends.len() as u16
     }

@@ -1,7 +1,6 @@
 // Tables of circuits, right or wrong, from short drafts.
 use boards::FlatBoard;
-use circuit::{Board, Refusal, class_of, part_of};
-use pattern::Pattern;
+use circuit::{Board, class_of, part_of};
 use std::alloc::Global;
 
 #[derive(Clone, Copy, Debug, PartialEq, Eq)]
@@ -85,19 +84,15 @@ impl Tables {
         Ok(tables)
     }
 
-    pub fn check_board(&self) -> Result<(), Refusal> {
-        boards::check(&self.classes, &self.ends, &self.joins)
+    pub fn lend(&self) -> tables::Tables<'_> {
+        tables::Tables {
+            classes: &self.classes,
+            ends: &self.ends,
+            joins: &self.joins,
+        }
     }
 
     pub fn board(&self) -> FlatBoard<'_> {
-        FlatBoard::make(&self.classes, &self.ends, &self.joins)
-    }
-
-    pub fn check_pattern(&self) -> Result<(), Refusal> {
-        pattern::check(&self.classes, &self.ends, &self.joins)
-    }
-
-    pub fn make_pattern(&self, pattern: &mut Pattern) -> Result<(), Refusal> {
-        pattern.make(&self.classes, &self.ends, &self.joins)
+        FlatBoard::make(self.lend())
     }
 }

@@ -6,6 +6,7 @@ use crate::answers::{DRAWN, Remark, Verdict};
 use crate::cases::Case;
 use crate::drafts::{Draft, Tables};
 use crate::questions::{Question, ask_all};
+use boards::check;
 use cases::CASES;
 use circuit::Board;
 
@@ -79,7 +80,7 @@ static BARE_QUESTIONS: [Question; 6] = [
 fn show_case(rt: &HostRuntime, case: &Case<Draft>) -> anyhow::Result<()> {
     let name = case.name;
     let tables = Tables::drawn(rt.alloc(), &case.tried)?;
-    let answer = tables.check_board();
+    let answer = check(tables.lend());
     let board = tables.board();
     let verdict = Verdict(answer);
     let parts = board.parts();

@@ -7,7 +7,7 @@ use crate::cases::Case;
 use crate::drafts::{Draft, Tables};
 use crate::questions::{Question, ask_all};
 use cases::CASES;
-use pattern::Pattern;
+use pattern::{Pattern, check};
 
 // The pattern that each case is made over.
 static BEFORE: Draft = Draft::Listed {
@@ -36,9 +36,9 @@ fn show_case(rt: &HostRuntime, case: &Case<Draft>, before: &Tables) -> anyhow::R
     let name = case.name;
     let tables = Tables::drawn(rt.alloc(), &case.tried)?;
     let mut pattern = Pattern::smallest();
-    let _ = before.make_pattern(&mut pattern);
-    let checked = tables.check_pattern();
-    let made = tables.make_pattern(&mut pattern);
+    let _ = pattern.make(before.lend());
+    let checked = check(tables.lend());
+    let made = pattern.make(tables.lend());
     let word = match made {
         Ok(()) => DRAWN.of(answers_as(&pattern, &tables)),
         Err(_) => KEPT.of(answers_as(&pattern, before)),

@@ -9,6 +9,7 @@ use labels::{Measured, label_parts};
 use pattern::Pattern;
 use sheets::{Fault, File, NetTables, Rail, Trouble, fault_in, load_nets, load_parts, load_rails};
 use std::alloc::Global;
+use tables::Tables;
 
 // The bytes of the five sheets; a missing one has none.
 #[derive(Clone, Copy)]
@@ -75,6 +76,15 @@ fn label(heap: Global, pattern: &[Measured], board: &[Measured]) -> Result<Class
     }
 }
 
+// The three tables of one side.
+fn side<'a>(classes: &'a [u16], nets: &'a NetTables) -> Tables<'a> {
+    Tables {
+        classes,
+        ends: nets.ends.as_slice(),
+        joins: nets.joins.as_slice(),
+    }
+}
+
 // The first fault on the way is the answer.
 pub fn prepare(heap: Global, sheets: &Sheets<'_>) -> Result<Circuits, Trouble> {
     let pattern_labels = load_parts(heap, File::PatternParts, sheets.pattern_parts)?;
@@ -84,19 +94,11 @@ pub fn prepare(heap: Global, sheets: &Sheets<'_>) -> Result<Circuits, Trouble> {
     let rails = load_rails(heap, sheets.board_rails)?;
     let labelled = label(heap, pattern_labels.as_slice(), board_labels.as_slice())?;
     let mut pattern = Pattern::smallest();
-    if let Err(refusal) = pattern.make(
-        labelled.pattern.as_slice(),
-        pattern_nets.ends.as_slice(),
-        pattern_nets.joins.as_slice(),
-    ) {
+    if let Err(refusal) = pattern.make(side(labelled.pattern.as_slice(), &pattern_nets)) {
         return Err(below(File::PatternJoins, refusal));
     }
     let classes = labelled.board;
-    if let Err(refusal) = check(
-        classes.as_slice(),
-        nets.ends.as_slice(),
-        nets.joins.as_slice(),
-    ) {
+    if let Err(refusal) = check(side(classes.as_slice(), &nets)) {
         return Err(below(File::BoardJoins, refusal));
     }
     Ok(Circuits {
@@ -116,11 +118,7 @@ impl Circuits {
 
     // The board of the tables, with every net shown.
     pub fn board(&self) -> FlatBoard<'_> {
-        FlatBoard::make(
-            self.classes.as_slice(),
-            self.nets.ends.as_slice(),
-            self.nets.joins.as_slice(),
-        )
+        FlatBoard::make(side(self.classes.as_slice(), &self.nets))
     }
 
     // Blanks the rails' nets, or answers the fault of the first rail that is not on the board.
