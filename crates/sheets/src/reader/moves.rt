@@ -13,18 +13,7 @@ fn before_stop(bytes: &[u8], stop: u8) -> usize
     ensures value { result ≡ upto stop bytes.now }
     ensures bound { result ≤ length bytes.now }
 {
-    for (i, b) in bytes.iter().enumerate() {
-        if *b == stop {
-            return i;
-        }
-    }
-    bytes.len()
-}
-
-fn same_bytes(one: &[u8], other: &[u8]) -> bool
-    ensures { result ≡ bytes_eq one.now other.now }
-{
-    one == other
+    bytes.iter().position(|b| *b == stop).unwrap_or(bytes.len())
 }
 
 // A number begins with a digit.
@@ -105,7 +94,7 @@ impl<'a> Reader<'a> {
     pub fn is_line(&self, text: &[u8]) -> bool
         ensures { result ≡ ((here self.now).ended && bytes_eq (here self.now).text text.now) }
     {
-        self.ended() && same_bytes(&self.sheet[self.line..self.end], text)
+        self.ended() && &self.sheet[self.line..self.end] == text
     }
 
     // The two fields of a line that ended and has no more.
