@@ -1,10 +1,10 @@
 // Numbers, scale letters and kinds.
 ghost use Rattle.std.specs.Prelude.{◌≡◌, ◌≤◌, true, length};
 ghost use Rattle.sheets.specs.Numbers.{shaped, numeral, at_most, factor, scaled, letter_kind, kind_of};
-ghost use Rattle.sheets.specs.Reading.{text_of, is_number, starts_digit, Digited};
+ghost use Rattle.sheets.specs.Reading.{text_of};
 
 use crate::entry::Kind;
-use crate::reader::Field;
+use crate::reader::{Field, Piece, Word};
 
 // 1 to 9 bytes, the first of several not 0.
 fn is_shaped(bytes: &[u8]) -> bool
@@ -57,14 +57,13 @@ fn kind_of_letter(letter: char) -> Option<Kind>
 
 // The number of a field, if it is at most `max`.
 pub(crate) fn number_to(field: Field<'_>, max: u16) -> Option<u16>
-    requires { Digited field }
     ensures { result ≡ at_most max (numeral (text_of field.entry)) }
 {
     match field {
-        Field::Number { bytes, place: _ } => u16::try_from(number(bytes)?)
+        Field::Number(it) => u16::try_from(number(it.piece.bytes)?)
             .ok()
             .filter(|n| *n <= max),
-        Field::Word { bytes: _, place: _ } => None,
+        Field::Word(_) => None,
     }
 }
 
@@ -81,25 +80,27 @@ fn with_scale(bytes: &[u8]) -> Option<u64>
 
 // A number that a scale letter may follow.
 pub(crate) fn amount(field: Field<'_>) -> Option<u64>
-    requires { Digited field }
     ensures { result ≡ scaled (text_of field.entry) }
 {
     match field {
-        Field::Number { bytes, place: _ } => with_scale(bytes),
-        Field::Word { bytes: _, place: _ } => None,
+        Field::Number(it) => with_scale(it.piece.bytes),
+        Field::Word(_) => None,
     }
 }
 
 // A kind is one letter.
 pub(crate) fn kind_in(field: Field<'_>) -> Option<Kind>
-    requires { Digited field }
     ensures { result ≡ kind_of (text_of field.entry) }
 {
     match field {
-        Field::Word {
-            bytes: [letter],
-            place: _,
-        } => kind_of_letter(char::from(*letter)),
+        Field::Word(
+            Word {
+                piece: Piece {
+                    bytes: [letter],
+                    ..
+                },
+            },
+        ) => kind_of_letter(char::from(*letter)),
         _ => None,
     }
 }

@@ -3,7 +3,7 @@ ghost use Rattle.std.specs.Prelude.{◌≡◌, ℕ, List, Result as Answer};
 ghost use Rattle.circuit.specs.declared.refusal.Refusal.{Refusal as Wrong};
 ghost use Rattle.sheets.specs.Lines.{Line};
 ghost use Rattle.sheets.specs.Numbers.{kind_of};
-ghost use Rattle.sheets.specs.Reading.{place_of, text_of, Digited, here, Fresh, Still};
+ghost use Rattle.sheets.specs.Reading.{place_of, text_of, here, Fresh, Still};
 ghost use Rattle.sheets.specs.Rows.{bad, measure, join_row, rail_row, part_row, join_names, rail_names, part_names};
 
 use crate::entry::{Join, Kind, Rail};
@@ -31,22 +31,12 @@ fn refusal(reason: Reason, place: usize) -> Refusal
     Refusal { reason, place }
 }
 
-// A field's first byte in its line.
-fn place(field: Field<'_>) -> usize
-    ensures { result ≡ place_of field.entry }
-{
-    match field {
-        Field::Number { bytes: _, place } => place,
-        Field::Word { bytes: _, place } => place,
-    }
-}
-
 // What a kind and a value say.
 fn measured(first: Field<'_>, second: Field<'_>) -> Result<Measured, Refusal>
-    requires { Digited first × (place_of first ≡ 0) × Digited second }
+    requires { place_of first ≡ 0 }
     ensures { result ≡ measure (place_of second.entry) (kind_of (text_of first.entry)) (text_of second.entry) }
 {
-    let wrong = refusal(Reason::NumberField, place(second));
+    let wrong = refusal(Reason::NumberField, second.place());
     match kind_in(first) {
         Some(Kind::Resistor) => {
             let ohms = amount(second).ok_or(wrong)?;
@@ -62,7 +52,7 @@ fn measured(first: Field<'_>, second: Field<'_>) -> Result<Measured, Refusal>
         }
         None => {
             amount(second).ok_or(wrong)?;
-            Err(refusal(Reason::KindField, place(first)))
+            Err(refusal(Reason::KindField, first.place()))
         }
     }
 }
@@ -94,8 +84,11 @@ impl Row for Join {
 
     fn read(reader: &mut Reader<'_>, before: &[Join]) -> Result<Join, Refusal> {
         let (first, second) = reader.pair().ok_or(refusal(Reason::FieldCount, 0))?;
-        let net = number_to(first, MAX_INDEX).ok_or(refusal(Reason::NumberField, place(first)))?;
-        let part = number_to(second, MAX_INDEX).ok_or(refusal(Reason::NumberField, place(second)))?;
+        let net = number_to(first, MAX_INDEX).ok_or(refusal(Reason::NumberField, first.place()))?;
+        let part = number_to(second, MAX_INDEX).ok_or(refusal(
+            Reason::NumberField,
+            second.place(),
+        ))?;
         if net < before.last().map_or(0, |join| join.net) {
             return Err(refusal(Reason::NetOrder, 0));
         }
@@ -117,7 +110,7 @@ impl Row for Rail {
 
     fn read(reader: &mut Reader<'_>, before: &[Rail]) -> Result<Rail, Refusal> {
         let field = reader.single().ok_or(refusal(Reason::FieldCount, 0))?;
-        let net = number_to(field, MAX_INDEX).ok_or(refusal(Reason::NumberField, place(field)))?;
+        let net = number_to(field, MAX_INDEX).ok_or(refusal(Reason::NumberField, field.place()))?;
         if net < before.last().map_or(0, |rail| rail.net) {
             return Err(refusal(Reason::NetOrder, 0));
         }

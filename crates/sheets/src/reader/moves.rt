@@ -3,10 +3,10 @@ ghost use Rattle.std.specs.Prelude.{◌≡◌, ◌+◌, ◌-◌, ◌<◌, ◌≤
 ghost use Rattle.std.specs.Str.{bytes_eq};
 ghost use Rattle.std.specs.Option.{option_map};
 ghost use Rattle.sheets.specs.Lines.{upto, lines};
-ghost use Rattle.sheets.specs.Reading.{text_of, place_of, bytes_of, here, coming, left_of, Fresh, Still, Told, Pair, texts, Moved, Taken, is_number, starts_digit};
+ghost use Rattle.sheets.specs.Reading.{text_of, place_of, bytes_of, here, coming, left_of, Fresh, Still, AtStart, Pair, texts, Moved, Taken};
 ghost use Rattle.sheets.specs.Rows.{two_fields, one_field};
 
-use super::{Field, Reader};
+use super::{Field, Number, Piece, Reader, Word};
 
 // How many bytes stand before the first `stop`.
 fn before_stop(bytes: &[u8], stop: u8) -> usize
@@ -20,11 +20,23 @@ fn before_stop(bytes: &[u8], stop: u8) -> usize
 fn told_apart<'a>(bytes: &'a [u8], place: usize) -> Field<'a>
     ensures bytes { text_of result ≡ bytes.now }
     ensures place { place_of result ≡ place }
-    ensures number { is_number result ≡ starts_digit bytes.now }
 {
+    let piece = Piece { bytes, place };
     match bytes {
-        [b'0'..=b'9', ..] => Field::Number { bytes, place },
-        _ => Field::Word { bytes, place },
+        [b'0'..=b'9', ..] => Field::Number(Number { piece }),
+        _ => Field::Word(Word { piece }),
+    }
+}
+
+impl Field<'_> {
+    // The first byte's place in the line.
+    pub(crate) fn place(self) -> usize
+        ensures { result ≡ place_of self.entry }
+    {
+        match self {
+            Field::Number(number) => number.piece.place,
+            Field::Word(word) => word.piece.place,
+        }
     }
 }
 
@@ -123,7 +135,7 @@ impl<'a> Reader<'a> {
     pub(crate) fn single(&mut self) -> Option<Field<'a>>
         requires { Fresh self.old }
         ensures fields { option_map text_of result ≡ one_field (here self.old) }
-        ensures told { IfSome result (Told 0) }
+        ensures told { IfSome result AtStart }
         ensures still { Still self.old self.new }
     {
         if !self.ended() {

@@ -2,8 +2,10 @@ use Rattle.std.proofs.Common.{◌≡◌, ◌+◌, ◌-◌, ◌≤◌, true, cond
 use Rattle.std.proofs.lemmas.Bool.{false≢true}
 use Rattle.std.proofs.lemmas.List.{length-drop, length-take-le}
 use Rattle.sheets.specs.Lines.{fields}
-use Rattle.sheets.specs.Reading.{Taken, text_of, is_number, starts_digit}
+use Rattle.sheets.specs.Numbers.{starts_digit}
+use Rattle.sheets.specs.Reading.{Taken, text_of, is_number}
 use Rattle.sheets.proofs.Cuts.{field_at, field_end}
+use Rattle.sheets.proofs.Told.{digit_told}
 use Rattle.sheets.proofs.reader.Reader.field.Goals as goal
 use Rattle.sheets.proofs.reader.Reader.field.Goals.{then-to-end, else-to-end}
 
@@ -19,7 +21,7 @@ returns c =
     let within : n ≤ a.end - i = omega (arith, c.before_stop.ensures.bound, long) in
     let text = c.told_apart.ensures.bytes in
     let size : length (text_of f) ≡ n = ap length text ∙ length-take-le (i + n - i) (drop i s) (omega (arith, length-drop i s)) ∙ omega arith in
-    let number : is_number f ≡ starts_digit (text_of f) = c.told_apart.ensures.number ∙ ap starts_digit (sym text) in
+    let number : is_number f ≡ starts_digit (text_of f) = digit_told f in
     elim c.if-to-end.branch [
       | then-to-end w ↦ subst (λ b. Taken f a b) (sym w.self-is) (record {
         sheet = refl;
