@@ -48,10 +48,9 @@ impl<'a> Reader<'a> {
         Reader {
             sheet,
             line: 0,
-            at: 0,
+            at: None,
             end: 0,
             next: 0,
-            more: false,
         }
     }
 
@@ -67,10 +66,9 @@ impl<'a> Reader<'a> {
         let end = from + before_stop(&sheet[from..], b'\n');
         let next = if end < sheet.len() { end + 1 } else { end };
         self.line = from;
-        self.at = from;
+        self.at = Some(from);
         self.end = end;
         self.next = next;
-        self.more = true;
         true
     }
 
@@ -78,21 +76,12 @@ impl<'a> Reader<'a> {
     pub fn field(&mut self) -> Option<Field<'a>>
         ensures { MatchOption result ((left_of self.old ≡ []) × (self.new ≡ self.old)) (λ f. Taken f self.old self.new) }
     {
-        if !self.more {
-            return None;
-        }
+        let from = self.at?;
         let sheet = self.sheet;
-        let from = self.at;
         let end = self.end;
         let to = from + before_stop(&sheet[from..end], b' ');
-        let place = from - self.line;
-        if to < end {
-            self.at = to + 1;
-        } else {
-            self.at = to;
-            self.more = false;
-        }
-        Some(told_apart(&sheet[from..to], place))
+        self.at = if to < end { Some(to + 1) } else { None };
+        Some(told_apart(&sheet[from..to], from - self.line))
     }
 
     // Whether a byte 10 ended the line.

@@ -21,6 +21,6 @@ returns c =
     record {
       sheet = refl;
       line = line_at s i n m (omega arith) size inside there past;
-      fresh = record { start = refl; whole = refl };
+      fresh = refl;
       on = elim c.if-end-sheet.branch [ then-end-sheet w ↦ omega (arith, w.next-is) | else-end-sheet w ↦ omega (arith, w.next-is) ];
     }
