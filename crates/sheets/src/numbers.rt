@@ -44,6 +44,7 @@ fn scale(letter: char) -> Option<u32>
     }
 }
 
+// No `TryFrom`: an unknown letter is no error yet where it is found, since a line's value is judged before its kind.
 fn kind_of_letter(letter: char) -> Option<Kind>
     ensures { result ≡ letter_kind letter }
 {

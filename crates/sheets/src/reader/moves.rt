@@ -99,6 +99,7 @@ impl<'a> Reader<'a> {
     }
 
     // The two fields of a line that ended and has no more.
+    // Not one function with `single`: no proof is generated for a result `Option<[Field<'a>; N]>`, whose elements hold references.
     pub(crate) fn pair(&mut self) -> Option<(Field<'a>, Field<'a>)>
         requires { Fresh self.old }
         ensures fields { option_map texts result ≡ two_fields (here self.old) }
@@ -108,13 +109,9 @@ impl<'a> Reader<'a> {
         if !self.ended() {
             return None;
         }
-        let Some(first) = self.field() else {
-            return None;
-        };
-        let Some(second) = self.field() else {
-            return None;
-        };
-        if let Some(_) = self.field() {
+        let first = self.field()?;
+        let second = self.field()?;
+        if self.field().is_some() {
             return None;
         }
         Some((first, second))
@@ -130,10 +127,8 @@ impl<'a> Reader<'a> {
         if !self.ended() {
             return None;
         }
-        let Some(field) = self.field() else {
-            return None;
-        };
-        if let Some(_) = self.field() {
+        let field = self.field()?;
+        if self.field().is_some() {
             return None;
         }
         Some(field)
