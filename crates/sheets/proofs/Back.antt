@@ -1,6 +1,7 @@
 -- Rows that are written and read back.
 use Rattle.std.proofs.Common.{◌≡◌, ℕ, ◌^◌, ◌<◌, ◌≤◌, true, false, not, ◌||◌, eqb, ◌⊎◌, List, [], ◌∷◌, ◌++◌, map, length, get_or, Some, None, Ok, decimal, sym, refl, ap, ◌∙◌, inl, inr, arith, rules}
-use Rattle.std.specs.List.{flat_map, AllByRecursion}
+use Rattle.std.proofs.lemmas.List.Folds.{flat_map-map}
+use Rattle.std.specs.List.{AllByRecursion}
 use Rattle.std.specs.Char.{is_ascii_digit}
 use Rattle.std.specs.Str.{all_ascii_digits}
 use Rattle.std.proofs.lemmas.Str.Parse.{IsNumeralModel, numerals_by_fold}
@@ -68,11 +69,7 @@ single_held : (before rows : List Join) → Holdable before rows → AllByRecurs
 single_held before [] h = tt
 single_held before (r ∷ rs) h = (join_single r h.1 h.2, single_held (before ++ r ∷ []) rs h.4)
 
-joined_texts : (rows : List Join) → flat_map (λ r. ended_line (join_text r)) rows ≡ flat_map ended_line (map join_text rows)
-joined_texts [] = refl
-joined_texts (r ∷ rs) = ap (λ z. ended_line (join_text r) ++ z) (joined_texts rs)
-
 pub joins_back : Without 10 join_names → JoinsBack
 joins_back w file rows h small =
     good_read join_row join_ends join_names w file (joins_sheet rows) rows
-    (record { small = small; texts = map join_text rows; single = single_held [] rows h; whole = ap (λ z. ended_line join_names ++ z) (joined_texts rows); says = says_held [] rows h })
+    (record { small = small; texts = map join_text rows; single = single_held [] rows h; whole = ap (λ z. ended_line join_names ++ z) (sym (flat_map-map ended_line join_text rows)); says = says_held [] rows h })

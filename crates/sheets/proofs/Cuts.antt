@@ -1,15 +1,8 @@
 -- Where the first byte c stands, and what is cut off there.
-use Rattle.std.proofs.Common.{◌≡◌, ℕ, suc, ◌+◌, ◌-◌, ◌<◌, ◌≤◌, Bool, true, false, cond, eqb, ltb, ◌⊎◌, List, [], ◌∷◌, length, get_or, take, drop, sym, refl, ap, ◌∙◌, inl, inr, arith}
-use Rattle.std.proofs.lemmas.List.{at_drop_more, at_drop_all, length-drop, drop-drop, take_all, drop_all, take-take, drop-take, length-take-le}
+use Rattle.std.proofs.Common.{◌≡◌, ℕ, suc, ◌+◌, ◌-◌, ◌<◌, ◌≤◌, Bool, true, false, cond, eqb, ltb, ◌⊎◌, List, [], ◌∷◌, length, take, drop, sym, refl, ap, ◌∙◌, inl, inr, arith}
+use Rattle.std.proofs.lemmas.List.{length-drop, drop-drop, take_all, drop_all, take-take, drop-take, length-take-le}
 use Rattle.std.proofs.lemmas.Bool.{lt-ltb, le-ltb, cases_lt}
 use Rattle.sheets.specs.Lines.{closed, broken, led, lines, fronted, fields, upto}
-
-module _ (c : ℕ) (s : List ℕ) (i : ℕ) where
-  pub upto_more : i < length s → (b : Bool) → eqb (get_or s i 0) c ≡ b → upto c (drop i s) ≡ cond b 0 (suc (upto c (drop (i + 1) s)))
-  upto_more h b e = at_drop_more (upto c) s i 0 h ∙ ap (λ t. cond t 0 (suc (upto c (drop (i + 1) s)))) e
-
-  pub upto_all : length s ≤ i → upto c (drop i s) ≡ 0
-  upto_all h = at_drop_all (upto c) s i h
 
 -- a field that a space ends
 pub fields_step : (t : List ℕ) (n : ℕ) → n ≡ upto 32 t → n < length t → fields t ≡ take n t ∷ fields (drop (n + 1) t)

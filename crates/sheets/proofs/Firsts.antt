@@ -1,5 +1,5 @@
 -- The first bad line.
-use Rattle.std.proofs.Common.{◌≡◌, ℕ, ◌+◌, ◌<◌, ◌≤◌, Bool, true, false, cond, ◌&&◌, ltb, ◌⊎◌, List, [], ◌∷◌, ◌++◌, map, length, Ok, Err, Result, sym, refl, ap, ◌∙◌, inl, inr, append_assoc, append-nil, arith}
+use Rattle.std.proofs.Common.{◌≡◌, ℕ, ◌+◌, ◌<◌, ◌≤◌, Bool, true, false, cond, ◌&&◌, ltb, ◌⊎◌, List, [], ◌∷◌, ◌++◌, map, length, Ok, Err, Result, sym, refl, ap, ◌∙◌, inl, inr, append_assoc, append-nil}
 use Rattle.std.proofs.lemmas.Bool.{ltb-true, ltb-false, and_parts, and_from, true≢false}
 use Rattle.std.proofs.lemmas.Slice.Eq.{bytes_eq-Decides}
 use Rattle.std.specs.Str.{bytes_eq}
@@ -25,7 +25,7 @@ module _ {R : Type 0} (judged : List R → Line → Result R Refusal) (ends : (b
     is : f ≡ fault_at file what.reason (length (before ++ rows) + 2) what.place
 
   failing : (file : File) (before : List R) (ls : List Line) (f : Fault) → rows_on judged file before ls ≡ Err f → Failing file before ls f
-  failing file before [] f e = let z : ◌≡◌ {A = ℕ} 0 1 = cc in absurd (omega arith)
+  failing file before [] f e = cc
   failing file before (l ∷ ls) f e = go (judged before l) refl e (λ r k. failing file (before ++ r ∷ []) ls f k)
     where
       go : (x : Result R Refusal) → judged before l ≡ x → then_row file (length before + 2) x (λ r. rows_on judged file (before ++ r ∷ []) ls) ≡ Err f
@@ -68,7 +68,7 @@ module _ {R : Type 0} (judged : List R → Line → Result R Refusal) (ends : (b
       → (((after : List Line) → Named judged names ls after → ⊥) × (f ≡ fault_at file NamesLine 1 0)) ⊎ ((after : List Line) × Named judged names ls after × Fails judged file after f)
   named names file [] f e =
       let same : f ≡ fault_at file NamesLine 1 0 = cc in
-      inl ((λ after n. let z : ◌≡◌ {A = ℕ} 0 1 = cc in absurd (omega arith)), same)
+      inl ((λ after n. cc), same)
   named names file (l ∷ ls) f e = go (l.ended && bytes_eq l.text names) refl e
     where
       heads : (after : List Line) → l ∷ ls ≡ closed names ∷ after → l ≡ closed names

@@ -2,10 +2,9 @@
 use Rattle.std.proofs.Common.{◌≡◌, ℕ, ◌+◌, ◌<◌, ◌≤◌, cond, List, length, Some, Ok, Err, sym, ap, ◌∙◌}
 use Rattle.std.proofs.lemmas.Bool.{lt-ltb, le-ltb}
 use Rattle.sheets.specs.declared.entry.Join.{Join}
-use Rattle.sheets.specs.declared.entry.Rail.{Rail}
 use Rattle.sheets.specs.Lines.{Line}
 use Rattle.sheets.specs.Numbers.{index_of}
-use Rattle.sheets.specs.Rows.{bad, kept, two_fields, one_field, join_row, join_by, joined_at, last_net, rail_row, rail_by, railed, last_rail}
+use Rattle.sheets.specs.Rows.{bad, kept, two_fields, join_row, join_by, joined_at, last_net}
 use Rattle.circuit.specs.declared.refusal.Reason.TheVariants.{NetOrder, TableFull}
 
 pub kept_ok : {R : Type 0} (room : ℕ) (before : List R) (r : R) → length before < room → Ok r ≡ kept room before r
@@ -19,11 +18,3 @@ join_ok before l a b n v e p q low room =
     ∙ ap (λ x. joined_at before (length a + 1) x (Some v)) p
     ∙ ap (λ x. joined_at before (length a + 1) (index_of a) x) q
     ∙ ap (join_by before) e
-
-pub rail_ok : (before : List Rail) (l : Line) (a : List ℕ) (n : ℕ) → Some a ≡ one_field l → Some n ≡ index_of a → last_rail before ≤ n → length before < 4096 → Ok (record { net = n }) ≡ rail_row before l
-rail_ok before l a n e p low room =
-    let r : Rail = record { net = n } in
-    kept_ok 4096 before r room
-    ∙ ap (λ x. cond x (Err (bad NetOrder 0)) (kept 4096 before r)) (sym (le-ltb _ _ low))
-    ∙ ap (railed before) p
-    ∙ ap (rail_by before) e

@@ -10,67 +10,28 @@ use Rattle.sheets.specs.Wrongs.{WrongPair, WrongJoin, Least, JoinsLeast}
 use Rattle.circuit.specs.declared.refusal.Reason.TheVariants.{FieldCount, NumberField, NetOrder, TableFull}
 
 module _ (before : List Join) (a b : List ℕ) where
-  clash : {G : Type 0} (n : ℕ) → index_of a ≡ None → index_of a ≡ Some n → G
-  clash n p q = let z : ◌≡◌ {A = ℕ} 0 1 = cc in absurd (omega arith)
-
-  clash_b : {G : Type 0} (n : ℕ) → index_of b ≡ None → index_of b ≡ Some n → G
-  clash_b n p q = let z : ◌≡◌ {A = ℕ} 0 1 = cc in absurd (omega arith)
-
   least_room : (m v : ℕ) → index_of a ≡ Some m → index_of b ≡ Some v → last_net before ≤ m → (e : Refusal)
       → (x : Bool) → ltb (length before) 16384 ≡ x → cond {A = Result Join Refusal} x (Ok (record { net = m; part = v })) (Err (bad TableFull 0)) ≡ Err e → Least (WrongPair before a b) e
-  least_room m v i j low e true h k = let z : ◌≡◌ {A = ℕ} 0 1 = cc in absurd (omega arith)
+  least_room m v i j low e true h k = cc
   least_room m v i j low e false h k =
       let is : bad TableFull 0 ≡ e = cc in
-      subst (Least (WrongPair before a b)) is (inr (inr (inr (refl, refl, ltb-false _ _ h))), least)
-    where
-      least : (n p : ℕ) → WrongPair before a b n p → (47 < n) ⊎ ((47 ≡ n) × (0 ≤ p))
-      least n p (inl w) = clash m w.2 i
-      least n p (inr (inl w)) = clash_b v w.2 j
-      least n p (inr (inr (inl w))) =
-          let same : Some w.2.0 ≡ Some m = sym w.2.1 ∙ i in
-          let eq : w.2.0 ≡ m = cc in
-          absurd (omega (arith, w.2.2))
-      least n p (inr (inr (inr w))) = inr (sym w.0, omega arith)
+      subst (Least (WrongPair before a b)) is (inr (inr (inr (refl, refl, ltb-false _ _ h))), λ n p w. grind arith)
 
   least_net : (m v : ℕ) → index_of a ≡ Some m → index_of b ≡ Some v → (e : Refusal)
       → (x : Bool) → ltb m (last_net before) ≡ x → cond x (Err (bad NetOrder 0)) (kept 16384 before (record { net = m; part = v })) ≡ Err e → Least (WrongPair before a b) e
   least_net m v i j e true h k =
       let is : bad NetOrder 0 ≡ e = cc in
-      subst (Least (WrongPair before a b)) is (inr (inr (inl (refl, refl, (m, i, ltb-true _ _ h)))), least)
-    where
-      least : (n p : ℕ) → WrongPair before a b n p → (46 < n) ⊎ ((46 ≡ n) × (0 ≤ p))
-      least n p (inl w) = clash m w.2 i
-      least n p (inr (inl w)) = clash_b v w.2 j
-      least n p (inr (inr (inl w))) = inr (sym w.0, omega arith)
-      least n p (inr (inr (inr w))) = inl (let k = w.0 in omega arith)
+      subst (Least (WrongPair before a b)) is (inr (inr (inl (refl, refl, (m, i, ltb-true _ _ h)))), λ n p w. grind arith)
   least_net m v i j e false h k = least_room m v i j (ltb-false _ _ h) e (ltb (length before) 16384) refl k
 
   least_index : (e : Refusal) (x y : Option ℕ) → index_of a ≡ x → index_of b ≡ y → joined_at before (length a + 1) x y ≡ Err e → Least (WrongPair before a b) e
   least_index e None y i j k =
       let is : bad NumberField 0 ≡ e = cc in
-      subst (Least (WrongPair before a b)) is (inl (refl, refl, i), least)
-    where
-      least : (n p : ℕ) → WrongPair before a b n p → (44 < n) ⊎ ((44 ≡ n) × (0 ≤ p))
-      least n p (inl w) = inr (sym w.0, omega arith)
-      least n p (inr (inl w)) = inr (sym w.0, omega arith)
-      least n p (inr (inr (inl w))) = inl (let k = w.0 in omega arith)
-      least n p (inr (inr (inr w))) = inl (let k = w.0 in omega arith)
+      subst (Least (WrongPair before a b)) is (inl (refl, refl, i), λ n p w. grind arith)
   least_index e (Some m) None i j k =
       let is : bad NumberField (length a + 1) ≡ e = cc in
-      subst (Least (WrongPair before a b)) is (inr (inl (refl, refl, j)), least)
-    where
-      least : (n p : ℕ) → WrongPair before a b n p → (44 < n) ⊎ ((44 ≡ n) × (length a + 1 ≤ p))
-      least n p (inl w) = clash m w.2 i
-      least n p (inr (inl w)) = inr (sym w.0, (let k = w.1 in omega arith))
-      least n p (inr (inr (inl w))) = inl (let k = w.0 in omega arith)
-      least n p (inr (inr (inr w))) = inl (let k = w.0 in omega arith)
+      subst (Least (WrongPair before a b)) is (inr (inl (refl, refl, j)), λ n p w. grind arith)
   least_index e (Some m) (Some v) i j k = least_net m v i j e (ltb m (last_net before)) refl k
-
-  low : (n p : ℕ) → WrongPair before a b n p → 43 < n
-  low n p (inl w) = let k = w.0 in omega arith
-  low n p (inr (inl w)) = let k = w.0 in omega arith
-  low n p (inr (inr (inl w))) = let k = w.0 in omega arith
-  low n p (inr (inr (inr w))) = let k = w.0 in omega arith
 
 pub joins_least : JoinsLeast
 joins_least before l e k = go (two_fields l) refl k
@@ -78,18 +39,14 @@ joins_least before l e k = go (two_fields l) refl k
     go : (x : Option (List ℕ × List ℕ)) → two_fields l ≡ x → join_by before x ≡ Err e → Least (WrongJoin before l) e
     go None q k =
         let is : bad FieldCount 0 ≡ e = cc in
-        subst (Least (WrongJoin before l)) is (inl (refl, refl, q), least)
-      where
-        least : (n p : ℕ) → WrongJoin before l n p → (43 < n) ⊎ ((43 ≡ n) × (0 ≤ p))
-        least n p (inl w) = inr (sym w.0, omega arith)
-        least n p (inr w) = inl (low before w.0 w.1 n p w.3)
+        subst (Least (WrongJoin before l)) is (inl (refl, refl, q), λ n p w. grind arith)
     go (Some f) q k = (inr (f.0, f.1, q, pair.0), least)
       where
         pair : Least (WrongPair before f.0 f.1) e
         pair = least_index before f.0 f.1 e (index_of f.0) (index_of f.1) refl refl k
 
         least : (n p : ℕ) → WrongJoin before l n p → (number_of e.reason < n) ⊎ ((number_of e.reason ≡ n) × (e.place ≤ p))
-        least n p (inl w) = let z : ◌≡◌ {A = ℕ} 0 1 = cc (sym q ∙ w.2) in absurd (omega arith)
+        least n p (inl w) = cc (sym q ∙ w.2)
         least n p (inr w) =
             let same : (w.0, w.1) ≡ f = cc (sym w.2 ∙ q) in
             pair.1 n p (subst (λ g. WrongPair before g.0 g.1 n p) same w.3)

@@ -15,28 +15,13 @@ use Rattle.circuit.specs.declared.refusal.Reason.TheVariants.{FieldCount, Number
 
 module _ (before : List Measured) (a b : List ℕ) where
   fault44 : value_in (kind_of a) b ≡ None → Least (WrongValue before a b) (bad NumberField (length a + 1))
-  fault44 j = (inl (refl, refl, j), least)
-    where
-      least : (n p : ℕ) → WrongValue before a b n p → (44 < n) ⊎ ((44 ≡ n) × (length a + 1 ≤ p))
-      least n p (inl w) = inr (sym w.0, (let k = w.1 in omega arith))
-      least n p (inr (inl w)) = inl (let k = w.0 in omega arith)
-      least n p (inr (inr w)) = inl (let k = w.0 in omega arith)
+  fault44 j = (inl (refl, refl, j), λ n p w. grind arith)
 
   fault45 : (m : ℕ) → value_in (kind_of a) b ≡ Some m → kind_of a ≡ None → Least (WrongValue before a b) (bad KindField 0)
-  fault45 m j i = (inr (inl (refl, refl, i)), least)
-    where
-      least : (n p : ℕ) → WrongValue before a b n p → (45 < n) ⊎ ((45 ≡ n) × (0 ≤ p))
-      least n p (inl w) = let z : ◌≡◌ {A = ℕ} 0 1 = cc (sym j ∙ w.2) in absurd (omega arith)
-      least n p (inr (inl w)) = inr (sym w.0, omega arith)
-      least n p (inr (inr w)) = inl (let k = w.0 in omega arith)
+  fault45 m j i = (inr (inl (refl, refl, i)), λ n p w. grind arith)
 
   fault47 : (m : ℕ) (t : Kind) → value_in (kind_of a) b ≡ Some m → kind_of a ≡ Some t → 4096 ≤ length before → Least (WrongValue before a b) (bad TableFull 0)
-  fault47 m t j i full = (inr (inr (refl, refl, full)), least)
-    where
-      least : (n p : ℕ) → WrongValue before a b n p → (47 < n) ⊎ ((47 ≡ n) × (0 ≤ p))
-      least n p (inl w) = let z : ◌≡◌ {A = ℕ} 0 1 = cc (sym j ∙ w.2) in absurd (omega arith)
-      least n p (inr (inl w)) = let z : ◌≡◌ {A = ℕ} 0 1 = cc (sym i ∙ w.2) in absurd (omega arith)
-      least n p (inr (inr w)) = inr (sym w.0, omega arith)
+  fault47 m t j i full = (inr (inr (refl, refl, full)), λ n p w. grind arith)
 
   -- a number, and what is made of it
   by_number : (e : Refusal) (t : Kind) (f : ℕ → Measured) (y : Option ℕ) → kind_of a ≡ Some t → value_in (kind_of a) b ≡ y
@@ -45,7 +30,7 @@ module _ (before : List Measured) (a b : List ℕ) where
   by_number e t f (Some m) i j k = go (ltb (length before) 4096) refl k
     where
       go : (x : Bool) → ltb (length before) 4096 ≡ x → cond {A = Result Measured Refusal} x (Ok (f m)) (Err (bad TableFull 0)) ≡ Err e → Least (WrongValue before a b) e
-      go true h k = let z : ◌≡◌ {A = ℕ} 0 1 = cc in absurd (omega arith)
+      go true h k = cc
       go false h k = let is : bad TableFull 0 ≡ e = cc in subst (Least (WrongValue before a b)) is (fault47 m t j i (ltb-false _ _ h))
 
   by_none : (e : Refusal) (y : Option ℕ) → kind_of a ≡ None → value_in (kind_of a) b ≡ y → in_table before (number_fault (length a + 1) y (λ n. Err (bad KindField 0))) ≡ Err e → Least (WrongValue before a b) e
@@ -58,29 +43,20 @@ module _ (before : List Measured) (a b : List ℕ) where
   by_kind e (Some Capacitor) i k = by_number e Capacitor (λ n. Picofarads (of_int binary64 (pos n))) (scaled b) i (ap (λ z. value_in z b) i) k
   by_kind e (Some Coded) i k = by_number e Coded (λ n. Code n) (code_of b) i (ap (λ z. value_in z b) i) k
 
-  low : (n p : ℕ) → WrongValue before a b n p → 43 < n
-  low n p (inl w) = let k = w.0 in omega arith
-  low n p (inr (inl w)) = let k = w.0 in omega arith
-  low n p (inr (inr w)) = let k = w.0 in omega arith
-
 pub parts_least : PartsLeast
 parts_least before l e k = go (two_fields l) refl k
   where
     go : (x : Option (List ℕ × List ℕ)) → two_fields l ≡ x → part_by before x ≡ Err e → Least (WrongPart before l) e
     go None q k =
         let is : bad FieldCount 0 ≡ e = cc in
-        subst (Least (WrongPart before l)) is (inl (refl, refl, q), least)
-      where
-        least : (n p : ℕ) → WrongPart before l n p → (43 < n) ⊎ ((43 ≡ n) × (0 ≤ p))
-        least n p (inl w) = inr (sym w.0, omega arith)
-        least n p (inr w) = inl (low before w.0 w.1 n p w.3)
+        subst (Least (WrongPart before l)) is (inl (refl, refl, q), λ n p w. grind arith)
     go (Some f) q k = (inr (f.0, f.1, q, pair.0), least)
       where
         pair : Least (WrongValue before f.0 f.1) e
         pair = by_kind before f.0 f.1 e (kind_of f.0) refl k
 
         least : (n p : ℕ) → WrongPart before l n p → (number_of e.reason < n) ⊎ ((number_of e.reason ≡ n) × (e.place ≤ p))
-        least n p (inl w) = let z : ◌≡◌ {A = ℕ} 0 1 = cc (sym q ∙ w.2) in absurd (omega arith)
+        least n p (inl w) = cc (sym q ∙ w.2)
         least n p (inr w) =
             let same : (w.0, w.1) ≡ f = cc (sym w.2 ∙ q) in
             pair.1 n p (subst (λ g. WrongValue before g.0 g.1 n p) same w.3)

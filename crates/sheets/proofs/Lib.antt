@@ -11,3 +11,4 @@ pub mod Exact
 pub mod LeastParts
 pub mod Pieces
 pub mod LeastRails
+pub mod Told

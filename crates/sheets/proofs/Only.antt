@@ -1,14 +1,14 @@
 -- A joins sheet that is read is written from its rows.
-use Rattle.std.proofs.Common.{◌≡◌, ℕ, ◌+◌, ◌^◌, ◌<◌, ◌≤◌, Bool, true, false, cond, not, ◌&&◌, ◌||◌, eqb, ltb, leb, ◌⊎◌, List, [], ◌∷◌, ◌++◌, length, get_or, Some, None, Ok, Err, decimal, Option, sym, refl, ap, ◌∙◌, subst, inl, inr, append-nil, arith}
+use Rattle.std.proofs.Common.{◌≡◌, ℕ, ◌+◌, ◌^◌, ◌<◌, ◌≤◌, Bool, true, false, cond, eqb, ltb, leb, List, [], ◌∷◌, ◌++◌, length, Some, None, Ok, Err, decimal, Option, sym, refl, ap, ◌∙◌, subst, append-nil, arith}
 use Rattle.std.specs.List.{flat_map}
-use Rattle.std.specs.Str.{all_ascii_digits}
 use Rattle.std.proofs.lemmas.Fmt.{decimal-digits_value}
-use Rattle.std.proofs.lemmas.Bool.{and_parts, or_cases, ltb-true, ltb-false, leb-true, eqb-true, eq-eqb, not-true, true≢false}
+use Rattle.std.proofs.lemmas.Bool.{ltb-true, ltb-false, leb-true, eqb-true}
 use Rattle.sheets.specs.declared.entry.Join.{Join}
 use Rattle.sheets.specs.Lines.{closed, fields, fronted}
-use Rattle.sheets.specs.Numbers.{value_on, shaped, numeral, at_most, index_of}
+use Rattle.sheets.specs.Numbers.{numeral, at_most, index_of}
 use Rattle.sheets.specs.Rows.{bad, kept, join_row, join_by, joined_at, join_names, just_two, last_net}
 use Rattle.sheets.specs.Laws.{ended_line, Says, Holdable, join_text, JoinsOnly}
+use Rattle.sheets.proofs.Digits.{numeral_is}
 use Rattle.sheets.proofs.Back.{own}
 use Rattle.sheets.proofs.Ends.{join_ends}
 use Rattle.sheets.proofs.Wholes.{read_good}
@@ -37,27 +37,15 @@ fields_whole (b ∷ bs) = go (eqb b 32) refl (fields bs) (fields_some bs) (field
     go false q (f ∷ fs) k h = ap (λ z. b ∷ z) h
 
 numeral_from : (ds : List ℕ) (n : ℕ) → numeral ds ≡ Some n → n < 2 ^ 64 → ds ≡ decimal n
-numeral_from ds n e small = go (shaped ds && all_ascii_digits ds) refl e
-  where
-    go : (x : Bool) → (shaped ds && all_ascii_digits ds) ≡ x → cond x (Some (value_on 0 ds)) None ≡ Some n → ds ≡ decimal n
-    go true q k =
-        let is : value_on 0 ds ≡ n = cc in
-        let p = and_parts (shaped ds) (all_ascii_digits ds) q in
-        let s = and_parts (ltb 0 (length ds) && leb (length ds) 9) (eqb (length ds) 1 || not (eqb (get_or ds 0 0) 48)) p.0 in
-        let t = and_parts (ltb 0 (length ds)) (leb (length ds) 9) s.0 in
-        let lead : get_or ds 0 0 ≡ 48 → length ds ≡ 1 = λ z. leading z (or_cases _ _ s.1) in
-        sym (decimal-digits_value own ds p.1 (ltb-true 0 (length ds) t.0) lead (omega arith)) ∙ ap decimal is
-      where
-        leading : get_or ds 0 0 ≡ 48 → (eqb (length ds) 1 ≡ true) ⊎ (not (eqb (get_or ds 0 0) 48) ≡ true) → length ds ≡ 1
-        leading z (inl h) = eqb-true _ _ h
-        leading z (inr h) = absurd (true≢false (sym (eq-eqb (get_or ds 0 0) 48 z) ∙ not-true _ h))
-    go false q k = let z : ◌≡◌ {A = ℕ} 0 1 = cc in absurd (omega arith)
+numeral_from ds n e small =
+    let w = numeral_is ds n e in
+    sym (decimal-digits_value own ds w.3 w.0 w.2 (omega (arith, w.4))) ∙ ap decimal w.4
 
 index_from : (ds : List ℕ) (n : ℕ) → index_of ds ≡ Some n → (ds ≡ decimal n) × (n ≤ 4095)
 index_from ds n e = go (numeral ds) refl e
   where
     go : (x : Option ℕ) → numeral ds ≡ x → at_most 4095 x ≡ Some n → (ds ≡ decimal n) × (n ≤ 4095)
-    go None q k = let z : ◌≡◌ {A = ℕ} 0 1 = cc in absurd (omega arith)
+    go None q k = cc
     go (Some m) q k = then (leb m 4095) refl k
       where
         then : (b : Bool) → leb m 4095 ≡ b → cond b (Some m) None ≡ Some n → (ds ≡ decimal n) × (n ≤ 4095)
@@ -65,7 +53,7 @@ index_from ds n e = go (numeral ds) refl e
             let is : m ≡ n = cc in
             let low : n ≤ 4095 = omega (arith, leb-true m 4095 h) in
             (numeral_from ds n (q ∙ ap Some is) (omega arith), low)
-        then false h j = let z : ◌≡◌ {A = ℕ} 0 1 = cc in absurd (omega arith)
+        then false h j = cc
 
 abbrev Written : List Join → List ℕ → Join → Type 0
 Written before t r = (t ≡ join_text r) × (last_net before ≤ r.net) × (r.net ≤ 4095) × (r.part ≤ 4095) × (length before < 16384)
@@ -80,23 +68,23 @@ module _ (before : List Join) (t : List ℕ) (r : Join) where
       let whole : t ≡ a ++ 32 ∷ (b ++ []) = sym (fields_whole t) ∙ ap spread q in
       subst (Written before t) is
       (whole ∙ ap (λ z. a ++ 32 ∷ z) (append-nil b) ∙ ap (λ z. z ++ 32 ∷ b) first.0 ∙ ap (λ z. decimal n ++ 32 ∷ z) second.0, low, first.1, second.1, ltb-true _ _ h)
-  by_room a b n v q i j low false h k = let z : ◌≡◌ {A = ℕ} 0 1 = cc in absurd (omega arith)
+  by_room a b n v q i j low false h k = cc
 
   by_net : (a b : List ℕ) (n v : ℕ) → fields t ≡ a ∷ b ∷ [] → index_of a ≡ Some n → index_of b ≡ Some v
       → (x : Bool) → ltb n (last_net before) ≡ x → cond x (Err (bad NetOrder 0)) (kept 16384 before (record { net = n; part = v })) ≡ Ok r → Written before t r
-  by_net a b n v q i j true h k = let z : ◌≡◌ {A = ℕ} 0 1 = cc in absurd (omega arith)
+  by_net a b n v q i j true h k = cc
   by_net a b n v q i j false h k = by_room a b n v q i j (ltb-false _ _ h) (ltb (length before) 16384) refl k
 
   by_index : (a b : List ℕ) → fields t ≡ a ∷ b ∷ [] → (x y : Option ℕ) → index_of a ≡ x → index_of b ≡ y → joined_at before (length a + 1) x y ≡ Ok r → Written before t r
-  by_index a b q None y i j k = let z : ◌≡◌ {A = ℕ} 0 1 = cc in absurd (omega arith)
-  by_index a b q (Some n) None i j k = let z : ◌≡◌ {A = ℕ} 0 1 = cc in absurd (omega arith)
+  by_index a b q None y i j k = cc
+  by_index a b q (Some n) None i j k = cc
   by_index a b q (Some n) (Some v) i j k = by_net a b n v q i j (ltb n (last_net before)) refl k
 
   by_fields : (fs : List (List ℕ)) → fields t ≡ fs → join_by before (just_two fs) ≡ Ok r → Written before t r
-  by_fields [] q k = let z : ◌≡◌ {A = ℕ} 0 1 = cc in absurd (omega arith)
-  by_fields (a ∷ []) q k = let z : ◌≡◌ {A = ℕ} 0 1 = cc in absurd (omega arith)
+  by_fields [] q k = cc
+  by_fields (a ∷ []) q k = cc
   by_fields (a ∷ b ∷ []) q k = by_index a b q (index_of a) (index_of b) refl refl k
-  by_fields (a ∷ b ∷ c ∷ fs) q k = let z : ◌≡◌ {A = ℕ} 0 1 = cc in absurd (omega arith)
+  by_fields (a ∷ b ∷ c ∷ fs) q k = cc
 
   pub join_from : join_row before (closed t) ≡ Ok r → Written before t r
   join_from e = by_fields (fields t) refl e

@@ -1,7 +1,8 @@
 -- The ends of the nets, and the pieces of the joins that they cut.
 use Rattle.std.proofs.Common.{◌≡◌, ℕ, zero, suc, ◌+◌, ◌-◌, ◌<◌, ◌≤◌, Bool, true, false, cond, ltb, leb, ◌⊎◌, List, [], ◌∷◌, ◌++◌, map, length, get_or, take, drop, sym, refl, ap, ◌∙◌, inl, inr, append_assoc, append-nil, arith}
 use Rattle.std.specs.List.{AllByRecursion}
-use Rattle.std.proofs.lemmas.List.{at_drop_more, at_drop_all, take-map, drop-map, length-map, length-append, get_or_push}
+use Rattle.std.proofs.lemmas.List.Sums.{prefix_len-le-length}
+use Rattle.std.proofs.lemmas.List.{take_rest, take-map, drop-map, length-map, length-append, get_or_push}
 use Rattle.std.proofs.lemmas.List.FromFn.{get_or-map-range_with_len}
 use Rattle.std.proofs.ByRecursion.{All-weaker}
 use Rattle.std.proofs.lemmas.Bool.{cases_lt, cases_order, lt-ltb, le-ltb, le-leb, lt-leb, leb-true, leb-false, eq-eqb, ne_eqb}
@@ -11,38 +12,31 @@ use Rattle.sheets.specs.Laws.{Holdable}
 use Rattle.sheets.specs.Nets.{nets_of, front, ends_of, part_of, parts_of, Rising, rows_in, NetsCut, NetsWhole, ReadsRising}
 use Rattle.sheets.proofs.Only.{joins_only}
 
--- ## Steps of the loops
-
-module _ (f : ℕ) (rows : List Join) (i : ℕ) where
-  pub front_at : (d : Join) → i < length rows → (b : Bool) → leb (get_or rows i d).net f ≡ b → front f (drop i rows) ≡ cond b (suc (front f (drop (i + 1) rows))) 0
-  front_at d h b e = at_drop_more (front f) rows i d h ∙ ap (λ t. cond t (suc (front f (drop (i + 1) rows))) 0) e
-
-  pub front_none : length rows ≤ i → front f (drop i rows) ≡ 0
-  front_none h = at_drop_all (front f) rows i h
-
-pub front_within : (f : ℕ) (rows : List Join) → front f rows ≤ length rows
-front_within f [] = omega arith
-front_within f (r ∷ rs) = go (leb r.net f) (front_within f rs)
-  where
-    go : (b : Bool) → front f rs ≤ length rs → cond b (suc (front f rs)) 0 ≤ suc (length rs)
-    go true h = omega arith
-    go false h = omega arith
+-- ## The fronts
 
 -- a place in the front: what is left of the front begins there
-pub front_from : (f : ℕ) (rows : List Join) (i : ℕ) → i ≤ front f rows → front f rows ≡ i + front f (drop i rows)
+front_from : (f : ℕ) (rows : List Join) (i : ℕ) → i ≤ front f rows → front f rows ≡ i + front f (drop i rows)
 front_from f rows zero h = omega arith
 front_from f [] (suc i) h = absurd (omega arith)
 front_from f (r ∷ rs) (suc i) h = go (leb r.net f) h (front_from f rs i)
   where
-    go : (b : Bool) → suc i ≤ cond b (suc (front f rs)) 0 → (i ≤ front f rs → front f rs ≡ i + front f (drop i rs)) → cond b (suc (front f rs)) 0 ≡ suc i + front f (drop i rs)
+    go : (b : Bool) → suc i ≤ cond b (1 + front f rs) 0 → (i ≤ front f rs → front f rs ≡ i + front f (drop i rs)) → cond b (1 + front f rs) 0 ≡ suc i + front f (drop i rs)
     go true k rest = let e = rest (omega arith) in omega arith
     go false k rest = absurd (omega arith)
+
+pub front_rest : (f : ℕ) (rows : List Join) (i n : ℕ) → i ≤ front f rows → n ≡ front f (take (length rows - i) (drop i rows)) → front f rows ≡ i + n
+front_rest f rows i n h e =
+    let from = front_from f rows i h in
+    omega (arith, from, e, ap (front f) (take_rest rows i))
+
+pub front_within : (f : ℕ) (rows : List Join) → front f rows ≤ length rows
+front_within f rows = prefix_len-le-length (λ r. leb r.net f) rows
 
 pub front_more : (f g : ℕ) (rows : List Join) → f ≤ g → front f rows ≤ front g rows
 front_more f g [] h = omega arith
 front_more f g (r ∷ rs) h = go (leb r.net f) (leb r.net g) refl refl (front_more f g rs h)
   where
-    go : (a b : Bool) → leb r.net f ≡ a → leb r.net g ≡ b → front f rs ≤ front g rs → cond a (suc (front f rs)) 0 ≤ cond b (suc (front g rs)) 0
+    go : (a b : Bool) → leb r.net f ≡ a → leb r.net g ≡ b → front f rs ≤ front g rs → cond a (1 + front f rs) 0 ≤ cond b (1 + front g rs) 0
     go true true p q k = omega arith
     go true false p q k = let m = leb-true _ _ p in let n = leb-false _ _ q in absurd (omega arith)
     go false b p q k = omega arith
@@ -64,8 +58,8 @@ same_test n f = go (cases_lt f n)
 front_under : (f : ℕ) (rows : List Join) → front f rows ≡ under (suc f) rows
 front_under f [] = refl
 front_under f (r ∷ rs) =
-    ap (λ b. cond b (suc (front f rs)) 0) (same_test r.net f)
-    ∙ ap (λ n. cond (ltb r.net (suc f)) (suc n) 0) (front_under f rs)
+    let more : 1 + front f rs ≡ suc (under (suc f) rs) = omega (arith, front_under f rs) in
+    ap (λ b. cond b (1 + front f rs) 0) (same_test r.net f) ∙ ap (λ n. cond (ltb r.net (suc f)) n 0) more
 
 under_none : (f : ℕ) (rows : List Join) → AllByRecursion (λ q. f ≤ q.net) rows → under f rows ≡ 0
 under_none f [] h = refl

@@ -1,8 +1,9 @@
 -- Lines and fields are cut without loss, and the sheets that are read are the good ones.
-use Rattle.std.proofs.Common.{◌≡◌, ℕ, ◌+◌, Bool, true, false, cond, ◌&&◌, eqb, ltb, List, [], ◌∷◌, ◌++◌, map, length, Ok, Err, Result, sym, refl, ap, ◌∙◌, subst, append_assoc, append-nil, arith, eqb-true}
+use Rattle.std.proofs.Common.{◌≡◌, ℕ, ◌+◌, Bool, true, false, cond, ◌&&◌, eqb, ltb, List, [], ◌∷◌, ◌++◌, map, length, Ok, Err, Result, sym, refl, ap, ◌∙◌, subst, append_assoc, append-nil, eqb-true}
 use borrow.Author.Tests.{eqb-false}
 use Rattle.std.proofs.lemmas.Bool.{ne_eqb, le-ltb, ltb-false, and_parts}
 use Rattle.std.proofs.lemmas.Slice.Eq.{bytes_eq-Decides}
+use Rattle.std.proofs.lemmas.List.Folds.{flat_map-map}
 use Rattle.std.specs.List.{flat_map, AllByRecursion}
 use Rattle.std.specs.Str.{bytes_eq}
 use Rattle.circuit.specs.declared.refusal.Refusal.{Refusal}
@@ -50,8 +51,7 @@ lines_texts [] w = refl
 lines_texts (t ∷ ts) w = lines_cut t (flat_map ended_line ts) w.0 ∙ ap (λ ls. closed t ∷ ls) (lines_texts ts w.1)
 
 shown_texts : (ts : List (List ℕ)) → flat_map shown (map closed ts) ≡ flat_map ended_line ts
-shown_texts [] = refl
-shown_texts (t ∷ ts) = ap (λ z. ended_line t ++ z) (shown_texts ts)
+shown_texts ts = flat_map-map shown closed ts
 
 without_texts : (ts : List (List ℕ)) → AllByRecursion (λ l. Without 10 l.text) (map closed ts) → AllByRecursion (Without 10) ts
 without_texts [] w = tt
@@ -84,7 +84,7 @@ module _ {R : Type 0} (judged : List R → Line → Result R Refusal) (ends : (b
             sum = f.sum ∙ append_assoc before (r ∷ []) f.rows;
             says = (ap (judged before) (sym is) ∙ q, f.says);
           }
-      go (Err b) q k rest = let z : ◌≡◌ {A = ℕ} 0 1 = cc in absurd (omega arith)
+      go (Err b) q k rest = cc
 
   said : (file : File) (before : List R) (ts : List (List ℕ)) (rs : List R) → Says judged before ts rs → rows_on judged file before (map closed ts) ≡ Ok (before ++ rs)
   said file before [] [] h = ap Ok (sym (append-nil before))
@@ -95,20 +95,17 @@ module _ {R : Type 0} (judged : List R → Line → Result R Refusal) (ends : (b
       ∙ said file (before ++ r ∷ []) ts rs h.1
       ∙ ap Ok (append_assoc before (r ∷ []) rs)
 
-  same_self : (ns : List ℕ) → bytes_eq ns ns ≡ true
-  same_self ns = (bytes_eq-Decides ns ns).1 refl
-
   pub good_read : (names : List ℕ) → Without 10 names → (file : File) (bytes : List ℕ) (rows : List R) → Good judged names bytes rows → sheet_of judged file names bytes ≡ Ok rows
   good_read names w file bytes rows g =
       ap (λ x. cond x (Err (fault_at file SheetSize 0 0)) (sheet_lines judged file names (lines bytes))) (le-ltb 65536 (length bytes) g.small)
       ∙ ap (λ z. sheet_lines judged file names (lines z)) g.whole
       ∙ ap (sheet_lines judged file names) (lines_cut names (flat_map ended_line g.texts) w ∙ ap (λ ls. closed names ∷ ls) (lines_texts g.texts g.single))
-      ∙ ap (λ x. cond x (rows_on judged file [] (map closed g.texts)) (Err (fault_at file NamesLine 1 0))) (same_self names)
+      ∙ ap (λ x. cond x (rows_on judged file [] (map closed g.texts)) (Err (fault_at file NamesLine 1 0))) ((bytes_eq-Decides names names).1 refl)
       ∙ said file [] g.texts rows g.says
 
   from_lines : (names : List ℕ) (file : File) (ls : List Line) (rows : List R) → sheet_lines judged file names ls ≡ Ok rows
       → (ts : List (List ℕ)) × (ls ≡ closed names ∷ map closed ts) × Says judged [] ts rows
-  from_lines names file [] rows e = let z : ◌≡◌ {A = ℕ} 0 1 = cc in absurd (omega arith)
+  from_lines names file [] rows e = cc
   from_lines names file (l ∷ ls) rows e = go (l.ended && bytes_eq l.text names) refl e
     where
       go : (x : Bool) → (l.ended && bytes_eq l.text names) ≡ x → cond x (rows_on judged file [] ls) (Err (fault_at file NamesLine 1 0)) ≡ Ok rows
@@ -119,13 +116,13 @@ module _ {R : Type 0} (judged : List R → Line → Result R Refusal) (ends : (b
           let is : l ≡ closed names = ap (λ b. record { text = l.text; ended = b }) both.0 ∙ ap closed text in
           let f = found file [] ls rows k in
           (f.texts, ap (λ z. z ∷ ls) is ∙ ap (λ zs. closed names ∷ zs) f.from, subst (λ rs. Says judged [] f.texts rs) (sym f.sum) f.says)
-      go false q k = let z : ◌≡◌ {A = ℕ} 0 1 = cc in absurd (omega arith)
+      go false q k = cc
 
   pub read_good : (names : List ℕ) (file : File) (bytes : List ℕ) (rows : List R) → sheet_of judged file names bytes ≡ Ok rows → Good judged names bytes rows
   read_good names file bytes rows e = go (ltb 65536 (length bytes)) refl e
     where
       go : (x : Bool) → ltb 65536 (length bytes) ≡ x → cond x (Err (fault_at file SheetSize 0 0)) (sheet_lines judged file names (lines bytes)) ≡ Ok rows → Good judged names bytes rows
-      go true q k = let z : ◌≡◌ {A = ℕ} 0 1 = cc in absurd (omega arith)
+      go true q k = cc
       go false q k =
           let f = from_lines names file (lines bytes) rows k in
           let w = lines_whole bytes in

@@ -1,6 +1,6 @@
 -- The tables that a joins sheet's rows give: an end for each net, and the joins.
-use Rattle.std.specs.Prelude.{◌≡◌, ℕ, suc, ◌+◌, ◌-◌, ◌<◌, ◌≤◌, cond, List, [], ◌∷◌, map, length, take, drop, Ok, Err, vec_items, filter, Result, nat_eq, nat_le, slice_index}
-use Rattle.std.specs.List.{range_with_len, AllByRecursion}
+use Rattle.std.specs.Prelude.{◌≡◌, ℕ, ◌+◌, ◌-◌, ◌<◌, ◌≤◌, List, [], ◌∷◌, map, length, take, drop, Ok, Err, vec_items, filter, Result, nat_eq, nat_le, slice_index}
+use Rattle.std.specs.List.{prefix_len, range_with_len, AllByRecursion}
 use Rattle.sheets.specs.declared.entry.Join.{Join}
 use Rattle.sheets.specs.declared.fault.Fault.{Fault}
 use Rattle.sheets.specs.declared.fault.File.{File}
@@ -17,8 +17,7 @@ nets_of (r ∷ rs) = last_net (r ∷ rs) + 1
 
 -- how long the front of the rows is whose nets are at most f
 abbrev pub front : ℕ → List Join → ℕ
-front f [] = 0
-front f (r ∷ rs) = cond (nat_le r.net f) (suc (front f rs)) 0
+front f rows = prefix_len (λ r. nat_le r.net f) rows
 
 abbrev pub ends_of : List Join → List ℕ
 ends_of rows = map (λ f. front f rows) (range_with_len 0 (nets_of rows))

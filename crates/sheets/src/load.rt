@@ -2,16 +2,14 @@
 ghost use Rattle.std.specs.Prelude.{◌≡◌};
 ghost use Rattle.sheets.specs.Nets.{NetsLoaded};
 ghost use Rattle.sheets.specs.Sheets.{layer_of, fault_at, sheet_of, Loaded};
-ghost use Rattle.sheets.specs.Rows.{join_row, rail_row, part_row, join_names, rail_names, part_names};
-ghost use Rattle.sheets.specs.declared.fault.File.TheVariants.{BoardRails};
+ghost use Rattle.sheets.specs.Rows.{join_row, join_names};
 
-use crate::entry::{Join, Rail};
+use crate::entry::Join;
 use crate::fault::{Fault, File, Layer, Trouble};
 use crate::nets::{NetTables, net_tables};
 use crate::reader::Reader;
 use crate::rows::Row;
-use circuit::Reason;
-use labels::Measured;
+use circuit::{Reason, Refusal};
 use std::alloc::Global;
 
 const MAX_BYTES: usize = 65_536;
@@ -40,65 +38,31 @@ pub fn fault_in(file: File, reason: Reason, line: usize, place: usize) -> Fault
     }
 }
 
-// The rows of a sheet, line by line; the first bad line is the sheet's fault.
-fn load_rows<R: Row>(heap: Global, file: File, bytes: &[u8]) -> Result<Vec<R>, Trouble>
+// The rows of a sheet, line by line; the first bad line is the sheet's fault. Labels are rows too: row i is part i.
+pub fn load_rows<R: Row>(heap: Global, file: File, bytes: &[u8]) -> Result<Vec<R>, Trouble>
     ensures { Loaded result (sheet_of R.judged file R.heading bytes.now) }
 {
     if bytes.len() > MAX_BYTES {
         return Err(Trouble::Faulty(fault_in(file, Reason::SheetSize, 0, 0)));
     }
     let mut reader = Reader::over(bytes);
-    if !reader.step() {
-        return Err(Trouble::Faulty(fault_in(file, Reason::NamesLine, 1, 0)));
-    }
-    if !reader.is_line(R::names()) {
+    if !reader.step() || !reader.is_line(R::names()) {
         return Err(Trouble::Faulty(fault_in(file, Reason::NamesLine, 1, 0)));
     }
     let mut rows: Vec<R> = Vec::new(heap);
     while reader.step() {
-        match R::read(&mut reader, rows.as_slice()) {
-            Ok(row) => {
-                if rows.push(row).is_err() {
-                    return Err(Trouble::Memory);
-                }
-            }
-            Err(bad) => {
-                return Err(Trouble::Faulty(fault_in(file, bad.reason, rows.len() + 2, bad.place)));
-            }
-        }
+        let line = rows.len() + 2;
+        let fault = |bad: Refusal| Trouble::Faulty(fault_in(file, bad.reason, line, bad.place));
+        let row = R::read(&mut reader, rows.as_slice()).map_err(fault)?;
+        rows.push(row).map_err(|_| Trouble::Memory)?;
     }
     Ok(rows)
-}
-
-// The labels of a parts sheet; row i is part i.
-pub fn load_parts(heap: Global, file: File, bytes: &[u8]) -> Result<Vec<Measured>, Trouble>
-    ensures { Loaded result (sheet_of part_row file part_names bytes.now) }
-{
-    load_rows(heap, file, bytes)
-}
-
-fn load_joins(heap: Global, file: File, bytes: &[u8]) -> Result<Vec<Join>, Trouble>
-    ensures { Loaded result (sheet_of join_row file join_names bytes.now) }
-{
-    load_rows(heap, file, bytes)
 }
 
 // The tables of a joins sheet; a net that the joins skip is empty.
 pub fn load_nets(heap: Global, file: File, bytes: &[u8]) -> Result<NetTables, Trouble>
     ensures { NetsLoaded result (sheet_of join_row file join_names bytes.now) }
 {
-    match load_joins(heap, file, bytes) {
-        Ok(rows) => match net_tables(heap, rows.as_slice()) {
-            Ok(tables) => Ok(tables),
-            Err(_) => Err(Trouble::Memory),
-        },
-        Err(trouble) => Err(trouble),
-    }
-}
-
-// The nets of the rails sheet.
-pub fn load_rails(heap: Global, bytes: &[u8]) -> Result<Vec<Rail>, Trouble>
-    ensures { Loaded result (sheet_of rail_row BoardRails rail_names bytes.now) }
-{
-    load_rows(heap, File::BoardRails, bytes)
+    let rows: Vec<Join> = load_rows(heap, file, bytes)?;
+    net_tables(heap, rows.as_slice()).map_err(|_| Trouble::Memory)
 }

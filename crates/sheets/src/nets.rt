@@ -16,24 +16,16 @@ pub struct NetTables {
 fn net_count(rows: &[Join]) -> usize
     ensures { result ≡ nets_of rows.now }
 {
-    let n = rows.len();
-    if n == 0 {
-        0
-    } else {
-        rows[n - 1].net as usize + 1
-    }
+    rows.last().map_or(0, |row| row.net as usize + 1)
 }
 
-// Where the rows whose nets are at most `net` end, looked for from a place that is not past it.
-fn end_from(rows: &[Join], from: usize, net: usize) -> usize
-    requires { from ≤ front net rows.now }
+// How many rows in front have nets of at most `net`.
+fn rows_up_to(rows: &[Join], net: usize) -> usize
     ensures { result ≡ front net rows.now }
 {
-    let mut at = from;
-    while at < rows.len() && rows[at].net as usize <= net {
-        at += 1;
-    }
-    at
+    rows.iter()
+        .take_while(|row| row.net as usize <= net)
+        .count()
 }
 
 // A net that the rows skip ends where the net before it ends.
@@ -44,7 +36,7 @@ fn net_ends(heap: Global, rows: &[Join]) -> Result<Vec<u16>, AllocError>
     let mut ends: Vec<u16> = Vec::new(heap);
     let mut at = 0;
     for net in 0..net_count(rows) {
-        at = end_from(rows, at, net);
+        at += rows_up_to(&rows[at..], net);
         ends.push(at as u16)?;
     }
     Ok(ends)
@@ -54,11 +46,7 @@ fn net_ends(heap: Global, rows: &[Join]) -> Result<Vec<u16>, AllocError>
 fn parts_joined(heap: Global, rows: &[Join]) -> Result<Vec<u16>, AllocError>
     ensures { IfOk result (λ v. v.items ≡ parts_of rows.now) }
 {
-    let mut joins: Vec<u16> = Vec::new(heap);
-    for row in rows {
-        joins.push(row.part)?;
-    }
-    Ok(joins)
+    rows.iter().map(|row| row.part).collect(heap)
 }
 
 // The rows are in the order of their nets, so the joins are the rows' parts as they stand.

@@ -3,15 +3,20 @@ ghost use Rattle.std.specs.Prelude.{◌≡◌, ℕ, List, Result as Answer};
 ghost use Rattle.circuit.specs.declared.refusal.Refusal.{Refusal as Wrong};
 ghost use Rattle.sheets.specs.Lines.{Line};
 ghost use Rattle.sheets.specs.Numbers.{kind_of};
-ghost use Rattle.sheets.specs.Reading.{place_of, text_of, Digited, here, Fresh, Still};
-ghost use Rattle.sheets.specs.Rows.{bad, last_net, last_rail, measure, join_row, rail_row, part_row, join_names, rail_names, part_names};
+ghost use Rattle.sheets.specs.Reading.{place_of, text_of, here, Fresh, Still};
+ghost use Rattle.sheets.specs.Rows.{bad, measure, join_row, rail_row, part_row, join_names, rail_names, part_names};
 
 use crate::entry::{Join, Kind, Rail};
-use crate::numbers::{amount, code, index, kind_in};
+use crate::numbers::{amount, kind_in, number_to};
 use crate::reader::{Field, Reader};
 use circuit::{Reason, Refusal};
 use labels::Measured;
 use std::num::nearest_u64_to_f64;
+
+// The largest net or part, and the largest code.
+const MAX_INDEX: u16 = 4_095;
+
+const MAX_CODE: u16 = 65_535;
 
 // How many rows the tables hold.
 const MAX_PARTS: usize = 4_096;
@@ -26,54 +31,29 @@ fn refusal(reason: Reason, place: usize) -> Refusal
     Refusal { reason, place }
 }
 
-// A field's first byte in its line.
-fn place(field: Field<'_>) -> usize
-    ensures { result ≡ place_of field.entry }
-{
-    match field {
-        Field::Number { bytes: _, place } => place,
-        Field::Word { bytes: _, place } => place,
-    }
-}
-
-// The net of the row before, 0 for the first row.
-fn net_before(before: &[Join]) -> u16
-    ensures { result ≡ last_net before.now }
-{
-    let n = before.len();
-    if n == 0 { 0 } else { before[n - 1].net }
-}
-
-fn rail_before(before: &[Rail]) -> u16
-    ensures { result ≡ last_rail before.now }
-{
-    let n = before.len();
-    if n == 0 { 0 } else { before[n - 1].net }
-}
-
 // What a kind and a value say.
 fn measured(first: Field<'_>, second: Field<'_>) -> Result<Measured, Refusal>
-    requires { Digited first × (place_of first ≡ 0) × Digited second }
+    requires { place_of first ≡ 0 }
     ensures { result ≡ measure (place_of second.entry) (kind_of (text_of first.entry)) (text_of second.entry) }
 {
-    let wrong = refusal(Reason::NumberField, place(second));
+    let wrong = refusal(Reason::NumberField, second.place());
     match kind_in(first) {
-        Some(Kind::Resistor) => match amount(second) {
-            Some(n) => Ok(Measured::Ohms(nearest_u64_to_f64(n))),
-            None => Err(wrong),
-        },
-        Some(Kind::Capacitor) => match amount(second) {
-            Some(n) => Ok(Measured::Picofarads(nearest_u64_to_f64(n))),
-            None => Err(wrong),
-        },
-        Some(Kind::Coded) => match code(second) {
-            Some(n) => Ok(Measured::Code(n)),
-            None => Err(wrong),
-        },
-        None => match amount(second) {
-            Some(_) => Err(refusal(Reason::KindField, place(first))),
-            None => Err(wrong),
-        },
+        Some(Kind::Resistor) => {
+            let ohms = amount(second).ok_or(wrong)?;
+            Ok(Measured::Ohms(nearest_u64_to_f64(ohms)))
+        }
+        Some(Kind::Capacitor) => {
+            let picofarads = amount(second).ok_or(wrong)?;
+            Ok(Measured::Picofarads(nearest_u64_to_f64(picofarads)))
+        }
+        Some(Kind::Coded) => {
+            let code = number_to(second, MAX_CODE).ok_or(wrong)?;
+            Ok(Measured::Code(code))
+        }
+        None => {
+            amount(second).ok_or(wrong)?;
+            Err(refusal(Reason::KindField, first.place()))
+        }
     }
 }
 
@@ -103,16 +83,13 @@ impl Row for Join {
     }
 
     fn read(reader: &mut Reader<'_>, before: &[Join]) -> Result<Join, Refusal> {
-        let Some((first, second)) = reader.pair() else {
-            return Err(refusal(Reason::FieldCount, 0));
-        };
-        let Some(net) = index(first) else {
-            return Err(refusal(Reason::NumberField, place(first)));
-        };
-        let Some(part) = index(second) else {
-            return Err(refusal(Reason::NumberField, place(second)));
-        };
-        if net < net_before(before) {
+        let (first, second) = reader.pair().ok_or(refusal(Reason::FieldCount, 0))?;
+        let net = number_to(first, MAX_INDEX).ok_or(refusal(Reason::NumberField, first.place()))?;
+        let part = number_to(second, MAX_INDEX).ok_or(refusal(
+            Reason::NumberField,
+            second.place(),
+        ))?;
+        if net < before.last().map_or(0, |join| join.net) {
             return Err(refusal(Reason::NetOrder, 0));
         }
         if before.len() >= MAX_JOINS {
@@ -132,13 +109,9 @@ impl Row for Rail {
     }
 
     fn read(reader: &mut Reader<'_>, before: &[Rail]) -> Result<Rail, Refusal> {
-        let Some(field) = reader.single() else {
-            return Err(refusal(Reason::FieldCount, 0));
-        };
-        let Some(net) = index(field) else {
-            return Err(refusal(Reason::NumberField, place(field)));
-        };
-        if net < rail_before(before) {
+        let field = reader.single().ok_or(refusal(Reason::FieldCount, 0))?;
+        let net = number_to(field, MAX_INDEX).ok_or(refusal(Reason::NumberField, field.place()))?;
+        if net < before.last().map_or(0, |rail| rail.net) {
             return Err(refusal(Reason::NetOrder, 0));
         }
         if before.len() >= MAX_RAILS {
@@ -158,13 +131,11 @@ impl Row for Measured {
     }
 
     fn read(reader: &mut Reader<'_>, before: &[Measured]) -> Result<Measured, Refusal> {
-        let Some((first, second)) = reader.pair() else {
-            return Err(refusal(Reason::FieldCount, 0));
-        };
-        match measured(first, second) {
-            Err(bad) => Err(bad),
-            Ok(_) if before.len() >= MAX_PARTS => Err(refusal(Reason::TableFull, 0)),
-            Ok(part) => Ok(part),
+        let (first, second) = reader.pair().ok_or(refusal(Reason::FieldCount, 0))?;
+        let part = measured(first, second)?;
+        if before.len() >= MAX_PARTS {
+            return Err(refusal(Reason::TableFull, 0));
         }
+        Ok(part)
     }
 }

@@ -3,39 +3,40 @@ ghost use Rattle.std.specs.Prelude.{◌≡◌, ◌+◌, ◌-◌, ◌<◌, ◌≤
 ghost use Rattle.std.specs.Str.{bytes_eq};
 ghost use Rattle.std.specs.Option.{option_map};
 ghost use Rattle.sheets.specs.Lines.{upto, lines};
-ghost use Rattle.sheets.specs.Reading.{text_of, place_of, bytes_of, here, coming, left_of, Fresh, Still, Told, Pair, texts, Moved, Taken, is_number, starts_digit};
+ghost use Rattle.sheets.specs.Reading.{text_of, place_of, bytes_of, here, coming, left_of, Fresh, Still, AtStart, Pair, texts, Moved, Taken};
 ghost use Rattle.sheets.specs.Rows.{two_fields, one_field};
 
-use super::{Field, Reader};
+use super::{Field, Number, Piece, Reader, Word};
 
 // How many bytes stand before the first `stop`.
 fn before_stop(bytes: &[u8], stop: u8) -> usize
     ensures value { result ≡ upto stop bytes.now }
     ensures bound { result ≤ length bytes.now }
 {
-    for (i, b) in bytes.iter().enumerate() {
-        if *b == stop {
-            return i;
-        }
-    }
-    bytes.len()
-}
-
-fn same_bytes(one: &[u8], other: &[u8]) -> bool
-    ensures { result ≡ bytes_eq one.now other.now }
-{
-    one == other
+    bytes.iter().position(|b| *b == stop).unwrap_or(bytes.len())
 }
 
 // A number begins with a digit.
 fn told_apart<'a>(bytes: &'a [u8], place: usize) -> Field<'a>
     ensures bytes { text_of result ≡ bytes.now }
     ensures place { place_of result ≡ place }
-    ensures number { is_number result ≡ starts_digit bytes.now }
 {
+    let piece = Piece { bytes, place };
     match bytes {
-        [b'0'..=b'9', ..] => Field::Number { bytes, place },
-        _ => Field::Word { bytes, place },
+        [b'0'..=b'9', ..] => Field::Number(Number { piece }),
+        _ => Field::Word(Word { piece }),
+    }
+}
+
+impl Field<'_> {
+    // The first byte's place in the line.
+    pub(crate) fn place(self) -> usize
+        ensures { result ≡ place_of self.entry }
+    {
+        match self {
+            Field::Number(number) => number.piece.place,
+            Field::Word(word) => word.piece.place,
+        }
     }
 }
 
@@ -47,10 +48,9 @@ impl<'a> Reader<'a> {
         Reader {
             sheet,
             line: 0,
-            at: 0,
+            at: None,
             end: 0,
             next: 0,
-            more: false,
         }
     }
 
@@ -66,10 +66,9 @@ impl<'a> Reader<'a> {
         let end = from + before_stop(&sheet[from..], b'\n');
         let next = if end < sheet.len() { end + 1 } else { end };
         self.line = from;
-        self.at = from;
+        self.at = Some(from);
         self.end = end;
         self.next = next;
-        self.more = true;
         true
     }
 
@@ -77,21 +76,12 @@ impl<'a> Reader<'a> {
     pub fn field(&mut self) -> Option<Field<'a>>
         ensures { MatchOption result ((left_of self.old ≡ []) × (self.new ≡ self.old)) (λ f. Taken f self.old self.new) }
     {
-        if !self.more {
-            return None;
-        }
+        let from = self.at?;
         let sheet = self.sheet;
-        let from = self.at;
         let end = self.end;
         let to = from + before_stop(&sheet[from..end], b' ');
-        let place = from - self.line;
-        if to < end {
-            self.at = to + 1;
-        } else {
-            self.at = to;
-            self.more = false;
-        }
-        Some(told_apart(&sheet[from..to], place))
+        self.at = if to < end { Some(to + 1) } else { None };
+        Some(told_apart(&sheet[from..to], from - self.line))
     }
 
     // Whether a byte 10 ended the line.
@@ -105,10 +95,11 @@ impl<'a> Reader<'a> {
     pub fn is_line(&self, text: &[u8]) -> bool
         ensures { result ≡ ((here self.now).ended && bytes_eq (here self.now).text text.now) }
     {
-        self.ended() && same_bytes(&self.sheet[self.line..self.end], text)
+        self.ended() && &self.sheet[self.line..self.end] == text
     }
 
     // The two fields of a line that ended and has no more.
+    // Not one function with `single`: no proof is generated for a result `Option<[Field<'a>; N]>`, whose elements hold references.
     pub(crate) fn pair(&mut self) -> Option<(Field<'a>, Field<'a>)>
         requires { Fresh self.old }
         ensures fields { option_map texts result ≡ two_fields (here self.old) }
@@ -118,13 +109,9 @@ impl<'a> Reader<'a> {
         if !self.ended() {
             return None;
         }
-        let Some(first) = self.field() else {
-            return None;
-        };
-        let Some(second) = self.field() else {
-            return None;
-        };
-        if let Some(_) = self.field() {
+        let first = self.field()?;
+        let second = self.field()?;
+        if self.field().is_some() {
             return None;
         }
         Some((first, second))
@@ -134,16 +121,14 @@ impl<'a> Reader<'a> {
     pub(crate) fn single(&mut self) -> Option<Field<'a>>
         requires { Fresh self.old }
         ensures fields { option_map text_of result ≡ one_field (here self.old) }
-        ensures told { IfSome result (Told 0) }
+        ensures told { IfSome result AtStart }
         ensures still { Still self.old self.new }
     {
         if !self.ended() {
             return None;
         }
-        let Some(field) = self.field() else {
-            return None;
-        };
-        if let Some(_) = self.field() {
+        let field = self.field()?;
+        if self.field().is_some() {
             return None;
         }
         Some(field)

@@ -1,12 +1,9 @@
 use Rattle.std.proofs.Common.{◌≡◌, ◌+◌, ◌<◌, ◌≤◌, length, drop, refl, ap, ◌∙◌, arith}
 use Rattle.std.proofs.lemmas.List.{drop_all, take_rest}
-use Rattle.sheets.specs.Lines.{lines, upto}
+use Rattle.sheets.specs.Lines.{upto}
 use Rattle.sheets.proofs.Cuts.{line_at}
 use Rattle.sheets.proofs.reader.Reader.step.Goals as goal
 use Rattle.sheets.proofs.reader.Reader.step.Goals.{then-end-sheet, else-end-sheet}
-
-pub returns-then-from-sheet : goal.returns-then-from-sheet
-returns-then-from-sheet c = ap lines (drop_all c.args.self.now.next c.args.self.now.sheet.now (omega arith))
 
 pub returns : goal.returns
 returns c =
@@ -21,6 +18,6 @@ returns c =
     record {
       sheet = refl;
       line = line_at s i n m (omega arith) size inside there past;
-      fresh = record { start = refl; whole = refl };
+      fresh = refl;
       on = elim c.if-end-sheet.branch [ then-end-sheet w ↦ omega (arith, w.next-is) | else-end-sheet w ↦ omega (arith, w.next-is) ];
     }
