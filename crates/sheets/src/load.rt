@@ -38,12 +38,7 @@ fn load_rows<R: Row>(heap: Global, file: File, bytes: &[u8]) -> Result<Vec<R>, T
                 }
             }
             Err(bad) => {
-                return Err(Trouble::Faulty(Fault::new(
-                    file,
-                    bad.reason,
-                    rows.len() + 2,
-                    bad.place,
-                )));
+                return Err(Fault::new(file, bad.reason, rows.len() + 2, bad.place).into());
             }
         }
     }
