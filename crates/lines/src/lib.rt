@@ -36,6 +36,7 @@ pub fn ending_line(heap: Global, ending: Ending) -> Result<String, AllocError>
 }
 
 // `fault`, the sheet, the reason's number, the line and the place.
+#[tactic(auto, using(crate::proofs::Spaces::fault_ended))]
 pub fn fault_line(heap: Global, fault: Fault) -> Result<String, AllocError>
     ensures { IfOk result (λ s. string_bytes s ≡ fault_line fault) }
 {

@@ -1,14 +1,12 @@
-use lib.Utf8.{encode}
-use Rattle.std.proofs.Common.{◌≡◌, [], ◌∷◌, ◌++◌, map, string_bytes, rules, refl, ap, ◌∙◌, arith}
+use Rattle.std.proofs.Common.{◌≡◌, [], ◌∷◌, ◌++◌, map, string_bytes, rules, ap, ◌∙◌, arith}
 use Rattle.std.proofs.lemmas.List.{take_all}
 use Rattle.lines.specs.Written.{spaced}
 use Rattle.lines.proofs.Spaces.{item_more}
 use Rattle.lines.proofs.line_of.Goals as goal
 
 pub loop-item-preserved : goal.loop-item-preserved
-unfolding encode
 loop-item-preserved g c = (
-  (32 ∷ [], (refl, refl)),
+  search rules,
   search rules,
   λ text known.
       let x = c.item-item.result in
