@@ -1,5 +1,6 @@
 // Where the lines go.
-ghost use Rattle.std.specs.Prelude.{ℕ, List, string_bytes, MatchResult, OnOk};
+ghost use Rattle.std.specs.Prelude.{◌≡◌, ℕ, List, OnOk};
+ghost use Rattle.listing.specs.declared.output.Halt.TheVariants.{Memory};
 
 use std::alloc::AllocError;
 
@@ -21,15 +22,17 @@ pub enum Halt<E> {
     Output(E),
 }
 
-// Writes a line, if there was memory for it.
-pub fn put<W: Sink>(out: &mut W, line: Result<String, AllocError>) -> Result<(), Halt<W::Error>>
-    ensures { OnOk result (MatchResult line (λ s. W.Sink.writes out.old (string_bytes s) out.new) (λ _. ⊥)) }
-{
-    let Ok(line) = line else {
-        return Err(Halt::Memory);
-    };
-    match out.write(line.as_str()) {
-        Ok(()) => Ok(()),
-        Err(e) => Err(Halt::Output(e)),
+impl<E> From<AllocError> for Halt<E> {
+    ghost from_gives = { λ _ halt. halt ≡ Memory };
+
+    fn from(_wanting: AllocError) -> Halt<E> {
+        Halt::Memory
     }
+}
+
+// Writes a line.
+pub fn put<W: Sink>(out: &mut W, line: &str) -> Result<(), Halt<W::Error>>
+    ensures { OnOk result (W.Sink.writes out.old line.now out.new) }
+{
+    out.write(line).map_err(Halt::Output)
 }
