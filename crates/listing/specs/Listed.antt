@@ -1,5 +1,5 @@
 -- What a list writes.
-use Rattle.std.specs.Prelude.{◌≡◌, ℕ, List, [], ◌∷◌, ◌++◌, map, take}
+use Rattle.std.specs.Prelude.{◌≡◌, ℕ, List, [], ◌∷◌, ◌++◌, map, take, Option, Some, codes}
 use Rattle.circuit.specs.Circuit.{Circuit, Hit}
 use Rattle.promise.specs.Order.{Mark, end}
 use Rattle.promise.specs.Search.{Rules, Answer, hit, finished, paused, Next}
@@ -7,6 +7,8 @@ use Rattle.promise.specs.Promise.{Right}
 use Rattle.lines.specs.Written.{hit_line, end_line, paused_line}
 use Rattle.lines.specs.declared.Ending.{Ending}
 use Rattle.lines.specs.declared.Ending.TheVariants.{End, Paused as Stopped}
+use Rattle.listing.specs.declared.output.Halt.{Halt}
+use Rattle.listing.specs.declared.output.Halt.TheVariants.{Memory, Output}
 use Rattle.listing.specs.declared.step.Step.{Step}
 use Rattle.listing.specs.declared.step.Step.TheVariants.{Found, Done, Rested}
 use Rattle.listing.specs.declared.step.Outcome.{Outcome}
@@ -16,6 +18,11 @@ use Rattle.listing.specs.declared.step.Outcome.TheVariants.{Ended, Paused, Fault
 abbrev pub outcome_of : Ending → Outcome
 outcome_of End = Ended
 outcome_of Stopped = Paused
+
+-- what is said of a list that was broken off, where what an error of the sink says is known
+abbrev pub halt_text : {E : Type 0} → (E → Option (List ℕ)) → Halt E → Option (List ℕ)
+halt_text text Memory = Some (codes "out of memory")
+halt_text text (Output e) = text e
 
 -- one call of next with a budget of 1,000,000 and some row: the answer a, and the bookmark k' and the row' that it leaves
 pub record Asked (R : Rules) (k : Mark) (a : Answer) (k' : Mark) (row' : List ℕ) : Type 0 where

@@ -1,8 +1,11 @@
 // Where the lines go.
 ghost use Rattle.std.specs.Prelude.{◌≡◌, ℕ, List, OnOk};
+ghost use Rattle.listing.specs.Listed.{halt_text};
 ghost use Rattle.listing.specs.declared.output.Halt.TheVariants.{Memory};
 
 use std::alloc::AllocError;
+use std::error::Error;
+use std::fmt;
 
 // What takes the lines, one by one.
 pub trait Sink {
@@ -16,11 +19,24 @@ pub trait Sink {
 }
 
 // Why a list was broken off: memory was wanting, or a line could not be written.
-#[derive(Drop)]
+#[derive(Debug, Drop)]
 pub enum Halt<E> {
     Memory,
     Output(E),
 }
+
+impl<E: fmt::Display> fmt::Display for Halt<E> {
+    ghost output = { halt_text E.output };
+
+    fn fmt<W: fmt::Write>(&self, f: &mut fmt::Formatter<W>) -> fmt::Result {
+        match self {
+            Halt::Memory => f.write_str("out of memory"),
+            Halt::Output(e) => write!(f, "{e}"),
+        }
+    }
+}
+
+impl<E: fmt::Debug + fmt::Display + Drop> Error for Halt<E> {}
 
 impl<E> From<AllocError> for Halt<E> {
     ghost from_gives = { λ _ halt. halt ≡ Memory };
