@@ -1,5 +1,5 @@
 -- Lines one after another, and the calls that gave them.
-use Rattle.std.proofs.Common.{◌≡◌, ℕ, ◌+◌, ◌<◌, ◌≤◌, Bool, List, [], ◌∷◌, ◌++◌, map, take, IfOk, Ok, Err, Result, sym, refl, subst}
+use Rattle.std.proofs.Common.{◌≡◌, ℕ, ◌+◌, ◌<◌, ◌≤◌, Bool, List, [], ◌∷◌, ◌++◌, map, take, IfOk, Ok, Err, Result, sym, refl, subst, ◌∙◌}
 use Rattle.std.proofs.lemmas.List.{map_push, append-nil}
 use Rattle.circuit.specs.Circuit.{Circuit, N, Hit}
 use Rattle.promise.specs.Order.{Mark, end}
@@ -11,12 +11,24 @@ use Rattle.lines.specs.Written.{hit_line, end_line, paused_line}
 use Rattle.listing.specs.declared.step.Outcome.{Outcome}
 use Rattle.listing.specs.declared.step.Outcome.TheVariants.{Ended, Paused}
 use Rattle.listing.specs.declared.step.Step.TheVariants.{Found, Done, Rested}
+use Rattle.search.specs.declared.bookmark.Search.{Search}
+use Rattle.listing.specs.declared.lister.Lister.{Lister}
+use Rattle.listing.specs.declared.step.Step.{Step}
+use Rattle.listing.specs.Going.{searched, mark_of, OnlySearched}
 use Rattle.listing.specs.Listed.{Writes, Stepped, HitsListed}
+
+pub only_more : {B L : Type 0} {l m n : Lister B L} → OnlySearched l m → OnlySearched m n → OnlySearched l n
+only_more e f = record { pattern = f.pattern ∙ e.pattern; board = f.board ∙ e.board; sieve = f.sieve ∙ e.sieve }
 
 module _ {S : Type 0} (w : S → List ℕ → S → Type 0) where
   pub writes_push : (a b c : S) (ls : List (List ℕ)) (l : List ℕ) → Writes w a ls b → w b l c → Writes w a (ls ++ l ∷ []) c
   writes_push a b c [] l e x = (c, subst (λ (s : S). w s l c) (sym e) x, refl)
   writes_push a b c (k ∷ ls) l (s, y, rest) x = (s, y, writes_push s b c ls l rest x)
+
+  -- what a step says holds for the lister as it was before the steps so far
+  pub stepped_on : {B L : Type 0} (means : B → Circuit) (keeps : L → Circuit → Circuit → List ℕ → Bool) {l m : Lister B L} (q : Search) (a b : S) (s : Step) → OnlySearched l m
+      → Stepped w (searched means keeps m) (mark_of {S = L} means m m.search) a s (mark_of {S = L} means m q) b → Stepped w (searched means keeps l) (mark_of {S = L} means l m.search) a s (mark_of {S = L} means l q) b
+  stepped_on means keeps q a b s only h = rw (only.pattern, only.board, only.sieve) at h
 
   module _ (p b : Circuit) (keeps : List ℕ → Bool) where
     -- so far: a run stands at k, and its hand-over was written

@@ -1,9 +1,9 @@
 // The list of findings, line by line.
 ghost use Rattle.std.specs.Prelude.{◌≡◌, ◌≤◌, length, take, IfOk, Ok, OnOk};
-ghost use Rattle.promise.specs.Hits.{rules_of};
 ghost use Rattle.pattern.specs.Drawn.{drawn};
-ghost use Rattle.search.specs.Held.{bookmark, said};
+ghost use Rattle.search.specs.Held.{said};
 ghost use Rattle.lines.specs.Written.{hit_line, ending_line};
+ghost use Rattle.listing.specs.Going.{searched, mark_of, OnlySearched};
 ghost use Rattle.listing.specs.Listed.{Asked, Stepped, HitsListed, outcome_of};
 
 use super::output::{Halt, Sink, put};
@@ -24,57 +24,53 @@ const FULL_BUDGET: u32 = 1_000_000;
 // After so many pauses the list is broken off.
 const MOST_PAUSES: u16 = 1_000;
 
-// One call of next with the full budget; with that and a row of sixteen it never refuses.
-fn ask<B: Board, S: Sieve<B>>(
-    search: &mut Search,
-    pattern: &Pattern,
-    board: &B,
-    sieve: &S,
-    row: &mut [u16],
-) -> Answer
-    requires { 16 ≤ length row.old }
-    ensures { Asked (rules_of (drawn pattern.now) (B.Board.means board.now) (S.Sieve.keeps sieve.now (drawn pattern.now) (B.Board.means board.now))) (bookmark (length (drawn pattern.now).nets) (length (B.Board.means board.now).nets) search.old) (said (Ok result)) (bookmark (length (drawn pattern.now).nets) (length (B.Board.means board.now).nets) search.new) row.new }
-{
-    match search.next(pattern, board, sieve, FULL_BUDGET, row) {
-        Ok(answer) => answer,
-        Err(_) => unreachable(),
-    }
+// A search whose hits are listed: for what, on which board, by which sieve, and how far it came.
+#[derive(Drop)]
+struct Lister<'a, B, S> {
+    heap: Global,
+    pattern: &'a Pattern,
+    board: &'a B,
+    sieve: &'a S,
+    search: Search,
 }
 
-// Writes the hit that a row holds.
-fn put_hit<W: Sink>(
-    heap: Global,
-    pattern: &Pattern,
-    row: &[u16],
-    out: &mut W,
-) -> Result<(), Halt<W::Error>>
-    requires { 16 ≤ length row.now }
-    ensures { OnOk result (W.Sink.writes out.old (hit_line (take (length (drawn pattern.now).nets) row.now)) out.new) }
-{
-    let m = pattern.net_count() as usize;
-    let line = hit_line(heap, &row[..m])?;
-    put(out, line.as_str())
-}
-
-// Makes one call of next, and writes the hit that it found.
-fn next_line<B: Board, S: Sieve<B>, W: Sink>(
-    heap: Global,
-    search: &mut Search,
-    pattern: &Pattern,
-    board: &B,
-    sieve: &S,
-    out: &mut W,
-) -> Result<Step, Halt<W::Error>>
-    ensures { IfOk result (λ step. Stepped W.Sink.writes (rules_of (drawn pattern.now) (B.Board.means board.now) (S.Sieve.keeps sieve.now (drawn pattern.now) (B.Board.means board.now))) (bookmark (length (drawn pattern.now).nets) (length (B.Board.means board.now).nets) search.old) out.old step (bookmark (length (drawn pattern.now).nets) (length (B.Board.means board.now).nets) search.new) out.new) }
-{
-    let mut row = [0u16; 16];
-    match ask(search, pattern, board, sieve, &mut row) {
-        Answer::Hit(_) => {
-            put_hit(heap, pattern, &row, out)?;
-            Ok(Step::Found)
+impl<'a, B: Board, S: Sieve<B>> Lister<'a, B, S> {
+    // One call of next with the full budget; with that and a row of sixteen it never refuses.
+    fn ask(&mut self, row: &mut [u16]) -> Answer
+        requires { 16 ≤ length row.old }
+        ensures asked { Asked (searched B.Board.means S.Sieve.keeps self.old) (mark_of B.Board.means self.old self.old.search) (said (Ok result)) (mark_of B.Board.means self.old self.new.search) row.new }
+        ensures only { OnlySearched self.old self.new }
+    {
+        match self.search.next(self.pattern, self.board, self.sieve, FULL_BUDGET, row) {
+            Ok(answer) => answer,
+            Err(_) => unreachable(),
         }
-        Answer::Finished(_) => Ok(Step::Done),
-        Answer::Paused(_) => Ok(Step::Rested),
+    }
+
+    // Writes the hit that a row holds.
+    fn put_hit<W: Sink>(&self, row: &[u16], out: &mut W) -> Result<(), Halt<W::Error>>
+        requires { 16 ≤ length row.now }
+        ensures { OnOk result (W.Sink.writes out.old (hit_line (take (length (drawn self.now.pattern.now).nets) row.now)) out.new) }
+    {
+        let m = self.pattern.net_count() as usize;
+        let line = hit_line(self.heap, &row[..m])?;
+        put(out, line.as_str())
+    }
+
+    // Makes one call of next, and writes the hit that it found.
+    fn step<W: Sink>(&mut self, out: &mut W) -> Result<Step, Halt<W::Error>>
+        ensures stepped { IfOk result (λ step. Stepped W.Sink.writes (searched B.Board.means S.Sieve.keeps self.old) (mark_of B.Board.means self.old self.old.search) out.old step (mark_of B.Board.means self.old self.new.search) out.new) }
+        ensures only { OnlySearched self.old self.new }
+    {
+        let mut row = [0u16; 16];
+        match self.ask(&mut row) {
+            Answer::Hit(_) => {
+                self.put_hit(&row, out)?;
+                Ok(Step::Found)
+            }
+            Answer::Finished(_) => Ok(Step::Done),
+            Answer::Paused(_) => Ok(Step::Rested),
+        }
     }
 }
 
@@ -97,10 +93,17 @@ pub fn list_hits<B: Board, W: Sink>(
     ensures { IfOk result (λ o. HitsListed W.Sink.writes (drawn pattern.now) (B.Board.means board.now) out.old o out.new) }
 {
     let mut sieve = TableSieve::fresh();
-    let mut search = Search::open(pattern, board, &mut sieve);
+    let search = Search::open(pattern, board, &mut sieve);
+    let mut lister = Lister {
+        heap,
+        pattern,
+        board,
+        sieve: &sieve,
+        search,
+    };
     let mut pauses: u16 = 0;
     loop {
-        match next_line(heap, &mut search, pattern, board, &sieve, out)? {
+        match lister.step(out)? {
             Step::Found => {}
             Step::Done => return put_ending(heap, Ending::End, out),
             Step::Rested => {
