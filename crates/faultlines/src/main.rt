@@ -3,8 +3,7 @@
 
 ghost use Rattle.std.specs.Prelude.{◌≡◌, ◌++◌, string_bytes};
 
-use anyhow::anyhow;
-use listing::{Halt, Sink, list};
+use listing::{Sink, list};
 use loading::Sheets;
 use sheets::File;
 use std::alloc::AllocError;
@@ -56,11 +55,7 @@ fn show(rt: &HostRuntime, name: &str, file: File, bytes: &[u8]) -> anyhow::Resul
     let mut record = Record {
         text: String::new(heap),
     };
-    match list(heap, &replaced(file, bytes), &mut record) {
-        Ok(_) => {}
-        Err(Halt::Memory) => return Err(anyhow!("out of memory")),
-        Err(Halt::Output(e)) => return Err(e.into()),
-    }
+    list(heap, &replaced(file, bytes), &mut record)?;
     let text = record.text.as_str();
     print!(rt; "{name}\n{text}")?;
     Ok(())
@@ -360,7 +355,7 @@ fn show_short_ones(rt: &HostRuntime) -> anyhow::Result<()> {
             text: "net\n0\n",
         },
     ];
-    for case in cases.iter() {
+    for case in cases {
         show(rt, case.name, case.file, case.text.as_bytes())?;
     }
     Ok(())

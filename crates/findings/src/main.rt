@@ -1,7 +1,7 @@
 //! Lists every copy of the pattern in the board: the five sheets are in the folder that is the only argument, or else in the current one.
 #![tactic(auto)]
 
-use anyhow::anyhow;
+use anyhow::ensure;
 use folder::list_folder;
 use listing::Outcome;
 use std::env;
@@ -10,14 +10,9 @@ use std::process::ExitCode;
 fn run(rt: &HostRuntime) -> anyhow::Result<Outcome> {
     let mut args = env::args(rt)?;
     let _program = args.next();
-    let first = args.next();
-    if args.next().is_some() {
-        return Err(anyhow!("usage: findings [FOLDER]"));
-    }
-    match first {
-        Some(folder) => list_folder(rt, folder.as_str()),
-        None => list_folder(rt, "."),
-    }
+    let folder = args.next();
+    ensure!(args.next().is_none(), "usage: findings [FOLDER]");
+    list_folder(rt, folder.as_ref().map_or(".", |folder| folder.as_str()))
 }
 
 // A fault has its own line on standard output, so no more is said of it than by the status.

@@ -2,10 +2,10 @@
 #![tactic(auto)]
 
 use anyhow::anyhow;
-use listing::{Halt, Outcome, Sink, list};
+use listing::{Outcome, Sink, list};
 use loading::Sheets;
-use std::io::{ErrorKind, Read};
-use std::{fs, io};
+use std::fs;
+use std::io::{self, ErrorKind, Read};
 
 // One byte more than a sheet may have, so that a longer file is still told apart.
 const MOST_BYTES: u64 = 65_537;
@@ -17,13 +17,15 @@ struct Printer<'a> {
 }
 
 impl<'a> Sink for Printer<'a> {
-    type Error = io::Error;
+    type Error = anyhow::Error;
 
     // No clause can speak of what is printed.
     ghost writes = { λ _ _ _. Unit {0} };
 
-    fn write(&mut self, line: &str) -> io::Result<()> {
-        self.rt.write_all(line.as_bytes())
+    fn write(&mut self, line: &str) -> anyhow::Result<()> {
+        self.rt
+            .write_all(line.as_bytes())
+            .map_err(|e| told("write", "the list", e))
     }
 }
 
@@ -38,18 +40,13 @@ fn read_sheet(rt: &HostRuntime, folder: &str, name: &str) -> anyhow::Result<Vec<
     let path = format!(in heap; "{folder}/{name}")?;
     let mut bytes = Vec::new(heap);
     let file = match fs::open(rt, path.as_str()) {
-        Ok(file) => file,
-        Err(e) => {
-            if e.kind() == ErrorKind::NotFound {
-                return Ok(bytes);
-            }
-            return Err(told("read", path.as_str(), e));
-        }
+        Err(e) if e.kind() == ErrorKind::NotFound => return Ok(bytes),
+        opened => opened.map_err(|e| told("read", path.as_str(), e))?,
     };
-    match file.take(MOST_BYTES).read_to_end(&mut bytes) {
-        Ok(_) => Ok(bytes),
-        Err(e) => Err(told("read", path.as_str(), e)),
-    }
+    file.take(MOST_BYTES)
+        .read_to_end(&mut bytes)
+        .map_err(|e| told("read", path.as_str(), e))?;
+    Ok(bytes)
 }
 
 // Lists the findings of a folder. A fault is a line of the list; what else goes wrong is an error.
@@ -67,9 +64,6 @@ pub fn list_folder(rt: &HostRuntime, folder: &str) -> anyhow::Result<Outcome> {
         board_rails: board_rails.as_slice(),
     };
     let mut printer = Printer { rt };
-    match list(rt.alloc(), &sheets, &mut printer) {
-        Ok(outcome) => Ok(outcome),
-        Err(Halt::Memory) => Err(anyhow!("out of memory")),
-        Err(Halt::Output(e)) => Err(told("write", "the list", e)),
-    }
+    let outcome = list(rt.alloc(), &sheets, &mut printer)?;
+    Ok(outcome)
 }

@@ -11,9 +11,8 @@ fn show(rt: &HostRuntime, folder: &str) -> anyhow::Result<()> {
 }
 
 fn main(rt: HostRuntime) -> anyhow::Result<()> {
-    show(&rt, "pair")?;
-    show(&rt, "ring")?;
-    show(&rt, "rail")?;
-    show(&rt, "low-pass")?;
-    show(&rt, "nowhere")
+    for folder in ["pair", "ring", "rail", "low-pass", "nowhere"] {
+        show(&rt, folder)?;
+    }
+    Ok(())
 }

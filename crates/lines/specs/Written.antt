@@ -3,8 +3,9 @@ use Rattle.std.specs.Prelude.{ℕ, List, [], ◌∷◌, ◌++◌, map, codes, de
 use Rattle.std.specs.List.{range_with_len, flat_map}
 use Rattle.circuit.specs.Refusals.{number_of}
 use Rattle.sheets.specs.declared.fault.Fault.{Fault}
-use Rattle.sheets.specs.declared.fault.File.{File}
-use Rattle.sheets.specs.declared.fault.File.TheVariants.{PatternParts, PatternJoins, BoardParts, BoardJoins, BoardRails}
+use Rattle.sheets.specs.Faults.{file_number}
+use Rattle.lines.specs.declared.Ending.{Ending}
+use Rattle.lines.specs.declared.Ending.TheVariants.{End, Paused}
 
 -- fields with a space between them
 abbrev pub spaced : List (List ℕ) → List ℕ
@@ -21,6 +22,14 @@ end_line = line_of (codes "end" ∷ [])
 abbrev pub paused_line : List ℕ
 paused_line = line_of (codes "paused" ∷ [])
 
+abbrev pub ending_text : Ending → List ℕ
+ending_text End = codes "end"
+ending_text Paused = codes "paused"
+
+-- the last line: `end_line` or `paused_line`
+abbrev pub ending_line : Ending → List ℕ
+ending_line e = line_of (ending_text e ∷ [])
+
 -- the net numbers of a hit
 abbrev pub hit_line : List ℕ → List ℕ
 hit_line ns = line_of (map decimal ns)
@@ -32,14 +41,6 @@ name_of i = 110 ∷ decimal i
 -- n0, n1 and so on
 abbrev pub names_line : ℕ → List ℕ
 names_line m = line_of (map name_of (range_with_len 0 m))
-
--- which of the five sheets, from 1
-abbrev pub file_number : File → ℕ
-file_number PatternParts = 1
-file_number PatternJoins = 2
-file_number BoardParts = 3
-file_number BoardJoins = 4
-file_number BoardRails = 5
 
 -- the sheet, the reason's number, the line and the place
 abbrev pub fault_line : Fault → List ℕ

@@ -1,108 +1,95 @@
 //! The lines that are written: a names line, hits, and how it ended.
 #![tactic(auto)]
 
-ghost use Rattle.std.specs.Prelude.{◌≡◌, [], ◌∷◌, ◌++◌, IfOk, if◌then◌else◌, string_bytes, codes, decimal, nat_eq};
+ghost use Rattle.std.specs.Prelude.{◌≡◌, List, ℕ, map, Some, IfOk, string_bytes};
+ghost use Rattle.std.specs.List.{range_with_len};
 ghost use Rattle.lines.specs.Back.{HitBack};
-ghost use Rattle.lines.specs.Written.{end_line, paused_line, hit_line, names_line, name_of, file_number, fault_line};
+ghost use Rattle.lines.specs.Written.{line_of, ending_text, ending_line, hit_line, names_line, name_of, fault_line};
 
-use sheets::{Fault, File};
+use sheets::Fault;
 use std::alloc::{AllocError, Global};
+use std::fmt;
 
-// The search came to its end.
-pub fn end_line(heap: Global) -> Result<String, AllocError>
-    ensures { IfOk result (λ s. string_bytes s ≡ end_line) }
-{
-    String::from_str(heap, "end\n")
+// How a search ended: it came to its end, or was stopped before.
+#[derive(Clone, Copy, PartialEq, Eq, Debug)]
+pub enum Ending {
+    End,
+    Paused,
 }
 
-// The search was stopped before its end.
-pub fn paused_line(heap: Global) -> Result<String, AllocError>
-    ensures { IfOk result (λ s. string_bytes s ≡ paused_line) }
-{
-    String::from_str(heap, "paused\n")
-}
+impl fmt::Display for Ending {
+    ghost output = { λ ending. Some (ending_text ending) };
 
-// Which of the five sheets, from 1.
-fn number_of(file: File) -> u16
-    ensures { result ≡ file_number file }
-{
-    match file {
-        File::PatternParts => 1,
-        File::PatternJoins => 2,
-        File::BoardParts => 3,
-        File::BoardJoins => 4,
-        File::BoardRails => 5,
+    fn fmt<W: fmt::Write>(&self, f: &mut fmt::Formatter<W>) -> fmt::Result {
+        match self {
+            Ending::End => f.write_str("end"),
+            Ending::Paused => f.write_str("paused"),
+        }
     }
 }
 
-// The bytes of a fault line, from its four numbers.
-fn fault_text(
-    heap: Global,
-    file: u16,
-    number: u16,
-    line: usize,
-    place: usize,
-) -> Result<String, AllocError>
-    ensures { IfOk result (λ s. string_bytes s ≡ codes "fault " ++ (decimal file ++ 32 ∷ (decimal number ++ 32 ∷ (decimal line ++ 32 ∷ (decimal place ++ 10 ∷ []))))) }
+// How the search ended, in a word.
+pub fn ending_line(heap: Global, ending: Ending) -> Result<String, AllocError>
+    ensures { IfOk result (λ s. string_bytes s ≡ ending_line ending) }
 {
-    format!(in heap; "fault {file} {number} {line} {place}\n")
+    format!(in heap; "{ending}\n")
 }
 
 // `fault`, the sheet, the reason's number, the line and the place.
+#[tactic(auto, using(crate::proofs::Spaces::fault_ended))]
 pub fn fault_line(heap: Global, fault: Fault) -> Result<String, AllocError>
     ensures { IfOk result (λ s. string_bytes s ≡ fault_line fault) }
 {
-    let file = number_of(fault.file);
-    let number = fault.reason.number();
-    fault_text(heap, file, number, fault.line, fault.place)
+    format!(in heap; "{fault}\n")
 }
 
-// A number, after a space unless it is the first.
-fn number_field(heap: Global, i: usize, n: u16) -> Result<String, AllocError>
-    ensures { IfOk result (λ s. string_bytes s ≡ (if nat_eq i 0 then decimal n else 32 ∷ decimal n)) }
-{
-    if i == 0 {
-        format!(in heap; "{n}")
-    } else {
-        format!(in heap; " {n}")
+// A net's name: n0, n1 and so on.
+#[derive(Clone, Copy)]
+struct Name(u16);
+
+impl fmt::Display for Name {
+    ghost output = { λ name. Some (name_of name.0) };
+
+    fn fmt<W: fmt::Write>(&self, f: &mut fmt::Formatter<W>) -> fmt::Result {
+        let net = self.0;
+        write!(f, "n{net}")
     }
 }
 
-// A net's name, after a space unless it is the first.
-fn name_field(heap: Global, i: u16) -> Result<String, AllocError>
-    ensures { IfOk result (λ s. string_bytes s ≡ (if nat_eq i 0 then name_of i else 32 ∷ name_of i)) }
+// The items on one line, with a single space between them.
+fn line_of<T: fmt::Display>(heap: Global, items: &[T]) -> Result<String, AllocError>
+    ensures { (text : T → List ℕ) → ((x : T) → T.output x ≡ Some (text x)) → IfOk result (λ s. string_bytes s ≡ line_of (map text items.now)) }
 {
-    if i == 0 {
-        format!(in heap; "n{i}")
-    } else {
-        format!(in heap; " n{i}")
+    let mut line = String::new(heap);
+    let mut gap = "";
+    for item in items {
+        write!(line, "{gap}{item}")?;
+        gap = " ";
     }
+    line.push_str("\n")?;
+    Ok(line)
 }
 
 // The net numbers of a hit.
 pub fn hit_line(heap: Global, row: &[u16]) -> Result<String, AllocError>
     ensures { IfOk result (λ s. string_bytes s ≡ hit_line row.now) }
 {
-    let mut out = String::new(heap);
-    for (i, n) in row.iter().enumerate() {
-        let text = number_field(heap, i, *n)?;
-        out.push_str(text.as_str())?;
-    }
-    out.push_str("\n")?;
-    Ok(out)
+    line_of(heap, row)
 }
 
-// A name for each net of the pattern: n0, n1 and so on.
+// A name for each of so many nets.
+fn names(heap: Global, nets: u16) -> Result<Vec<Name>, AllocError>
+    ensures { IfOk result (λ names. names.items ≡ map (λ n. record { 0 = n }) (range_with_len 0 nets)) }
+{
+    (0..nets).map(Name).collect(heap)
+}
+
+// The names of the pattern's nets.
 pub fn names_line(heap: Global, nets: u16) -> Result<String, AllocError>
     ensures { IfOk result (λ s. string_bytes s ≡ names_line nets) }
 {
-    let mut out = String::new(heap);
-    for i in 0..nets {
-        let text = name_field(heap, i)?;
-        out.push_str(text.as_str())?;
-    }
-    out.push_str("\n")?;
-    Ok(out)
+    let names = names(heap, nets)?;
+    line_of(heap, names.as_slice())
 }
 
 // A hit line, read back, gives the numbers.

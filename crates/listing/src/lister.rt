@@ -1,22 +1,22 @@
 // The list of findings, line by line.
-ghost use Rattle.std.specs.Prelude.{◌≡◌, ◌≤◌, length, take, IfOk, Ok, string_bytes, MatchResult, OnOk};
-ghost use Rattle.promise.specs.Hits.{rules_of};
+ghost use Rattle.std.specs.Prelude.{◌≡◌, ◌≤◌, length, take, IfOk, Ok, OnOk};
 ghost use Rattle.pattern.specs.Drawn.{drawn};
-ghost use Rattle.search.specs.Held.{bookmark, said};
-ghost use Rattle.lines.specs.Written.{hit_line};
-ghost use Rattle.listing.specs.Listed.{Asked, Stepped, HitsListed};
+ghost use Rattle.search.specs.Held.{said};
+ghost use Rattle.lines.specs.Written.{hit_line, ending_line};
+ghost use Rattle.listing.specs.Going.{searched, mark_of, OnlySearched};
+ghost use Rattle.listing.specs.Listed.{Asked, Stepped, HitsListed, outcome_of};
 
 use super::output::{Halt, Sink, put};
 use super::step::{Outcome, Step};
 use boards::Blanking;
 use circuit::Board;
-use lines::{end_line, fault_line, hit_line, names_line, paused_line};
+use lines::{Ending, ending_line, fault_line, hit_line, names_line};
 use loading::{Sheets, prepare};
 use pattern::Pattern;
 use search::{Answer, Search};
 use sheets::Trouble;
 use sieves::{Sieve, TableSieve};
-use std::alloc::{AllocError, Global};
+use std::alloc::Global;
 
 // The tries of one call of next.
 const FULL_BUDGET: u32 = 1_000_000;
@@ -24,71 +24,63 @@ const FULL_BUDGET: u32 = 1_000_000;
 // After so many pauses the list is broken off.
 const MOST_PAUSES: u16 = 1_000;
 
-// One call of next with the full budget; with that and a row of sixteen it never refuses.
-fn ask<B: Board, S: Sieve<B>>(
-    search: &mut Search,
-    pattern: &Pattern,
-    board: &B,
-    sieve: &S,
-    row: &mut [u16],
-) -> Answer
-    requires { 16 ≤ length row.old }
-    ensures { Asked (rules_of (drawn pattern.now) (B.Board.means board.now) (S.Sieve.keeps sieve.now (drawn pattern.now) (B.Board.means board.now))) (bookmark (length (drawn pattern.now).nets) (length (B.Board.means board.now).nets) search.old) (said (Ok result)) (bookmark (length (drawn pattern.now).nets) (length (B.Board.means board.now).nets) search.new) row.new }
-{
-    match search.next(pattern, board, sieve, FULL_BUDGET, row) {
-        Ok(answer) => answer,
-        Err(_) => unreachable(),
-    }
-}
-
-// Writes the hit that a row holds.
-fn put_hit<W: Sink>(
+// A search whose hits are listed: for what, on which board, by which sieve, and how far it came.
+#[derive(Drop)]
+struct Lister<'a, B, S> {
     heap: Global,
-    pattern: &Pattern,
-    row: &[u16],
-    out: &mut W,
-) -> Result<(), Halt<W::Error>>
-    requires { 16 ≤ length row.now }
-    ensures { OnOk result (W.Sink.writes out.old (hit_line (take (length (drawn pattern.now).nets) row.now)) out.new) }
-{
-    let m = pattern.net_count() as usize;
-    put(out, hit_line(heap, &row[0..m]))
+    pattern: &'a Pattern,
+    board: &'a B,
+    sieve: &'a S,
+    search: Search,
 }
 
-// Makes one call of next, and writes the hit that it found.
-fn next_line<B: Board, S: Sieve<B>, W: Sink>(
-    heap: Global,
-    search: &mut Search,
-    pattern: &Pattern,
-    board: &B,
-    sieve: &S,
-    out: &mut W,
-) -> Step<W::Error>
-    ensures { Stepped W.Sink.writes (rules_of (drawn pattern.now) (B.Board.means board.now) (S.Sieve.keeps sieve.now (drawn pattern.now) (B.Board.means board.now))) (bookmark (length (drawn pattern.now).nets) (length (B.Board.means board.now).nets) search.old) out.old result (bookmark (length (drawn pattern.now).nets) (length (B.Board.means board.now).nets) search.new) out.new }
-{
-    let mut row = [0u16; 16];
-    match ask(search, pattern, board, sieve, &mut row) {
-        Answer::Hit(_) => match put_hit(heap, pattern, &row, out) {
-            Ok(()) => Step::Found,
-            Err(halt) => Step::Broken(halt),
-        },
-        Answer::Finished(_) => Step::Done,
-        Answer::Paused(_) => Step::Rested,
+impl<'a, B: Board, S: Sieve<B>> Lister<'a, B, S> {
+    // One call of next with the full budget; with that and a row of sixteen it never refuses.
+    fn ask(&mut self, row: &mut [u16]) -> Answer
+        requires { 16 ≤ length row.old }
+        ensures asked { Asked (searched B.Board.means S.Sieve.keeps self.old) (mark_of B.Board.means self.old self.old.search) (said (Ok result)) (mark_of B.Board.means self.old self.new.search) row.new }
+        ensures only { OnlySearched self.old self.new }
+    {
+        match self.search.next(self.pattern, self.board, self.sieve, FULL_BUDGET, row) {
+            Ok(answer) => answer,
+            Err(_) => unreachable(),
+        }
+    }
+
+    // Writes the hit that a row holds.
+    fn put_hit<W: Sink>(&self, row: &[u16], out: &mut W) -> Result<(), Halt<W::Error>>
+        requires { 16 ≤ length row.now }
+        ensures { OnOk result (W.Sink.writes out.old (hit_line (take (length (drawn self.now.pattern.now).nets) row.now)) out.new) }
+    {
+        let m = self.pattern.net_count() as usize;
+        let line = hit_line(self.heap, &row[..m])?;
+        put(out, line.as_str())
+    }
+
+    // Makes one call of next, and writes the hit that it found.
+    fn step<W: Sink>(&mut self, out: &mut W) -> Result<Step, Halt<W::Error>>
+        ensures stepped { IfOk result (λ step. Stepped W.Sink.writes (searched B.Board.means S.Sieve.keeps self.old) (mark_of B.Board.means self.old self.old.search) out.old step (mark_of B.Board.means self.old self.new.search) out.new) }
+        ensures only { OnlySearched self.old self.new }
+    {
+        let mut row = [0u16; 16];
+        match self.ask(&mut row) {
+            Answer::Hit(_) => {
+                self.put_hit(&row, out)?;
+                Ok(Step::Found)
+            }
+            Answer::Finished(_) => Ok(Step::Done),
+            Answer::Paused(_) => Ok(Step::Rested),
+        }
     }
 }
 
-// Writes the last line of a list.
-fn put_last<W: Sink>(
-    out: &mut W,
-    line: Result<String, AllocError>,
-    outcome: Outcome,
-) -> Result<Outcome, Halt<W::Error>>
-    ensures { IfOk result (λ o. (o ≡ outcome) × MatchResult line (λ s. W.Sink.writes out.old (string_bytes s) out.new) (λ _. ⊥)) }
+// Writes how the search ended, the last line of a list.
+fn put_ending<W: Sink>(heap: Global, ending: Ending, out: &mut W) -> Result<Outcome, Halt<W::Error>>
+    ensures { IfOk result (λ o. (o ≡ outcome_of ending) × W.Sink.writes out.old (ending_line ending) out.new) }
 {
-    match put(out, line) {
-        Ok(()) => Ok(outcome),
-        Err(halt) => Err(halt),
-    }
+    let line = ending_line(heap, ending)?;
+    put(out, line.as_str())?;
+    Ok(Outcome::from(ending))
 }
 
 // Writes a line for each hit, and how the search ended.
@@ -101,19 +93,25 @@ pub fn list_hits<B: Board, W: Sink>(
     ensures { IfOk result (λ o. HitsListed W.Sink.writes (drawn pattern.now) (B.Board.means board.now) out.old o out.new) }
 {
     let mut sieve = TableSieve::fresh();
-    let mut search = Search::open(pattern, board, &mut sieve);
+    let search = Search::open(pattern, board, &mut sieve);
+    let mut lister = Lister {
+        heap,
+        pattern,
+        board,
+        sieve: &sieve,
+        search,
+    };
     let mut pauses: u16 = 0;
     loop {
-        match next_line(heap, &mut search, pattern, board, &sieve, out) {
+        match lister.step(out)? {
             Step::Found => {}
-            Step::Done => return put_last(out, end_line(heap), Outcome::Ended),
+            Step::Done => return put_ending(heap, Ending::End, out),
             Step::Rested => {
                 pauses += 1;
                 if pauses == MOST_PAUSES {
-                    return put_last(out, paused_line(heap), Outcome::Paused);
+                    return put_ending(heap, Ending::Paused, out);
                 }
             }
-            Step::Broken(halt) => return Err(halt),
         }
     }
 }
@@ -126,7 +124,8 @@ fn list_fault<W: Sink>(
 ) -> Result<Outcome, Halt<W::Error>> {
     match trouble {
         Trouble::Faulty(fault) => {
-            put(out, fault_line(heap, fault))?;
+            let line = fault_line(heap, fault)?;
+            put(out, line.as_str())?;
             Ok(Outcome::Faulty)
         }
         Trouble::Memory => Err(Halt::Memory),
@@ -148,6 +147,7 @@ pub fn list<W: Sink>(
         return list_fault(heap, trouble, out);
     }
     let pattern = circuits.pattern();
-    put(out, names_line(heap, pattern.net_count()))?;
+    let names = names_line(heap, pattern.net_count())?;
+    put(out, names.as_str())?;
     list_hits(heap, pattern, &board, out)
 }

@@ -1,13 +1,15 @@
 // How a list goes on, and how it ends.
-use super::output::Halt;
+ghost use Rattle.std.specs.Prelude.{◌≡◌};
+ghost use Rattle.listing.specs.Listed.{outcome_of};
 
-// What one call of next led to: a hit that was written, the end, a pause, or a list that has to be broken off.
-#[derive(Drop)]
-pub enum Step<E> {
+use lines::Ending;
+
+// What one call of next led to: a hit that was written, the end, or a pause.
+#[derive(Clone, Copy, PartialEq, Eq, Debug)]
+pub enum Step {
     Found,
     Done,
     Rested,
-    Broken(Halt<E>),
 }
 
 // How a list came to its last line.
@@ -16,4 +18,16 @@ pub enum Outcome {
     Ended,
     Paused,
     Faulty,
+}
+
+// A list that was searched for ended as its search did.
+impl From<Ending> for Outcome {
+    ghost from_gives = { λ ending outcome. outcome ≡ outcome_of ending };
+
+    fn from(ending: Ending) -> Outcome {
+        match ending {
+            Ending::End => Outcome::Ended,
+            Ending::Paused => Outcome::Paused,
+        }
+    }
 }

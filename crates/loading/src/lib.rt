@@ -7,7 +7,7 @@ use boards::{Blanking, FlatBoard, check};
 use circuit::{Board, Reason, Refusal};
 use labels::{Measured, label_parts};
 use pattern::Pattern;
-use sheets::{Fault, File, NetTables, Rail, Trouble, fault_in, load_nets, load_rows};
+use sheets::{Fault, File, NetTables, Rail, Trouble, load_nets, load_rows};
 use std::alloc::Global;
 use tables::Tables;
 
@@ -38,8 +38,8 @@ struct Classes {
 }
 
 // A refusal of a call that the rows were handed to.
-fn below(file: File, refusal: Refusal) -> Trouble {
-    Trouble::Faulty(fault_in(file, refusal.reason, 0, refusal.place))
+fn below(file: File, refusal: Refusal) -> Fault {
+    Fault::new(file, refusal.reason, 0, refusal.place)
 }
 
 // The joins sheet of the side that labelling refused. Places from 64 on are the board's.
@@ -51,29 +51,19 @@ fn side_of(refusal: Refusal, pattern_parts: usize) -> File {
     }
 }
 
-// A table of zeros.
-fn zeros(heap: Global, n: usize) -> Result<Vec<u16>, Trouble> {
-    match vec![in heap; 0u16; n] {
-        Ok(table) => Ok(table),
-        Err(_) => Err(Trouble::Memory),
-    }
-}
-
 fn label(heap: Global, pattern: &[Measured], board: &[Measured]) -> Result<Classes, Trouble> {
-    let mut pattern_classes = zeros(heap, pattern.len())?;
-    let mut board_classes = zeros(heap, board.len())?;
-    match label_parts(
+    let mut classes = Classes {
+        pattern: vec![in heap; 0u16; pattern.len()]?,
+        board: vec![in heap; 0u16; board.len()]?,
+    };
+    label_parts(
         pattern,
         board,
-        pattern_classes.as_mut_slice(),
-        board_classes.as_mut_slice(),
-    ) {
-        Ok(()) => Ok(Classes {
-            pattern: pattern_classes,
-            board: board_classes,
-        }),
-        Err(refusal) => Err(below(side_of(refusal, pattern.len()), refusal)),
-    }
+        classes.pattern.as_mut_slice(),
+        classes.board.as_mut_slice(),
+    )
+    .map_err(|refusal| below(side_of(refusal, pattern.len()), refusal))?;
+    Ok(classes)
 }
 
 // The three tables of one side.
@@ -94,13 +84,11 @@ pub fn prepare(heap: Global, sheets: &Sheets<'_>) -> Result<Circuits, Trouble> {
     let rails = load_rows::<Rail>(heap, File::BoardRails, sheets.board_rails)?;
     let labelled = label(heap, pattern_labels.as_slice(), board_labels.as_slice())?;
     let mut pattern = Pattern::smallest();
-    if let Err(refusal) = pattern.make(side(labelled.pattern.as_slice(), &pattern_nets)) {
-        return Err(below(File::PatternJoins, refusal));
-    }
+    pattern
+        .make(side(labelled.pattern.as_slice(), &pattern_nets))
+        .map_err(|refusal| below(File::PatternJoins, refusal))?;
     let classes = labelled.board;
-    if let Err(refusal) = check(side(classes.as_slice(), &nets)) {
-        return Err(below(File::BoardJoins, refusal));
-    }
+    check(side(classes.as_slice(), &nets)).map_err(|refusal| below(File::BoardJoins, refusal))?;
     Ok(Circuits {
         pattern,
         classes,
@@ -124,9 +112,9 @@ impl Circuits {
     // Blanks the rails' nets, or answers the fault of the first rail that is not on the board.
     pub fn blank_rails<B: Board>(&self, board: &mut Blanking<B>) -> Result<(), Trouble> {
         for rail in self.rails.iter() {
-            if let Err(refusal) = board.blank(rail.net) {
-                return Err(below(File::BoardRails, refusal));
-            }
+            board
+                .blank(rail.net)
+                .map_err(|refusal| below(File::BoardRails, refusal))?;
         }
         Ok(())
     }

@@ -2,6 +2,7 @@ pub mod Lines
 pub mod Numbers
 pub mod Rows
 pub mod Sheets
+pub mod Faults
 pub mod Nets
 pub mod Reading
 pub mod Laws

@@ -1,11 +1,10 @@
 // Loading a sheet.
-ghost use Rattle.std.specs.Prelude.{◌≡◌};
 ghost use Rattle.sheets.specs.Nets.{NetsLoaded};
-ghost use Rattle.sheets.specs.Sheets.{layer_of, fault_at, sheet_of, Loaded};
+ghost use Rattle.sheets.specs.Sheets.{sheet_of, Loaded};
 ghost use Rattle.sheets.specs.Rows.{join_row, join_names};
 
 use crate::entry::Join;
-use crate::fault::{Fault, File, Layer, Trouble};
+use crate::fault::{Fault, File, Trouble};
 use crate::nets::{NetTables, net_tables};
 use crate::reader::Reader;
 use crate::rows::Row;
@@ -14,47 +13,23 @@ use std::alloc::Global;
 
 const MAX_BYTES: usize = 65_536;
 
-fn layer_of(reason: Reason) -> Layer
-    ensures { result ≡ layer_of reason }
-{
-    match reason {
-        Reason::NumberField | Reason::KindField => Layer::Field,
-        Reason::NamesLine | Reason::FieldCount | Reason::NetOrder => Layer::Row,
-        Reason::SheetSize | Reason::TableFull => Layer::Table,
-        _ => Layer::Below,
-    }
-}
-
-// A fault, with the layer that its reason tells.
-pub fn fault_in(file: File, reason: Reason, line: usize, place: usize) -> Fault
-    ensures { result ≡ fault_at file reason line place }
-{
-    Fault {
-        file,
-        layer: layer_of(reason),
-        reason,
-        line,
-        place,
-    }
-}
-
 // The rows of a sheet, line by line; the first bad line is the sheet's fault. Labels are rows too: row i is part i.
 pub fn load_rows<R: Row>(heap: Global, file: File, bytes: &[u8]) -> Result<Vec<R>, Trouble>
     ensures { Loaded result (sheet_of R.judged file R.heading bytes.now) }
 {
     if bytes.len() > MAX_BYTES {
-        return Err(Trouble::Faulty(fault_in(file, Reason::SheetSize, 0, 0)));
+        return Err(Trouble::Faulty(Fault::new(file, Reason::SheetSize, 0, 0)));
     }
     let mut reader = Reader::over(bytes);
     if !reader.step() || !reader.is_line(R::names()) {
-        return Err(Trouble::Faulty(fault_in(file, Reason::NamesLine, 1, 0)));
+        return Err(Trouble::Faulty(Fault::new(file, Reason::NamesLine, 1, 0)));
     }
     let mut rows: Vec<R> = Vec::new(heap);
     while reader.step() {
         let line = rows.len() + 2;
-        let fault = |bad: Refusal| Trouble::Faulty(fault_in(file, bad.reason, line, bad.place));
+        let fault = |bad: Refusal| Fault::new(file, bad.reason, line, bad.place);
         let row = R::read(&mut reader, rows.as_slice()).map_err(fault)?;
-        rows.push(row).map_err(|_| Trouble::Memory)?;
+        rows.push(row)?;
     }
     Ok(rows)
 }
@@ -64,5 +39,5 @@ pub fn load_nets(heap: Global, file: File, bytes: &[u8]) -> Result<NetTables, Tr
     ensures { NetsLoaded result (sheet_of join_row file join_names bytes.now) }
 {
     let rows: Vec<Join> = load_rows(heap, file, bytes)?;
-    net_tables(heap, rows.as_slice()).map_err(|_| Trouble::Memory)
+    Ok(net_tables(heap, rows.as_slice())?)
 }

@@ -1,17 +1,10 @@
-use Rattle.std.proofs.Common.{[], ◌∷◌, ◌++◌, map, ap, ◌∙◌, arith}
-use Rattle.std.specs.List.{range_with_len}
-use Rattle.lines.specs.Written.{spaced, name_of}
-use Rattle.lines.proofs.Spaces.{name_more}
+use Rattle.std.proofs.Common.{◌≡◌, ℕ, List, map, refl, subst, IfOk, string_bytes, ap, ◌∙◌}
+use Rattle.std.proofs.lemmas.Simd.{map-map}
+use Rattle.lines.specs.Written.{name_of, line_of}
 use Rattle.lines.proofs.names_line.Goals as goal
-
-pub loop-i-preserved : goal.loop-i-preserved
-loop-i-preserved c =
-    c.in_ok-push_str.ensures.bytes
-    ∙ ap (λ z. z ++ c.as_str.result.now) c.loop-i.invariant
-    ∙ name_more name_of c.loop-i.i c.as_str.result.now (c.as_str.ensures.value ∙ c.in_ok-text.ensures)
 
 pub returns : goal.returns
 returns c =
-    c.in_ok-push_str-2.ensures.bytes
-    ∙ ap (λ z. z ++ 10 ∷ []) c.loop-i.invariant
-    ∙ ap (λ n. spaced (map name_of (range_with_len 0 n)) ++ 10 ∷ []) (omega arith)
+    subst (λ (fs : List (List ℕ)). IfOk c.line_of.result (λ s. string_bytes s ≡ line_of fs))
+    (ap (map (λ x. name_of x.0)) (c.as_slice.ensures.value ∙ c.in_ok-names.ensures) ∙ map-map _ _ _)
+    (c.line_of.ensures (λ x. name_of x.0) (λ x. refl))
