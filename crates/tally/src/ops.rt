@@ -23,13 +23,13 @@ pub(super) fn find<K: Ord>(entries: &[Entry<K>], key: &K) -> Result<usize, usize
     Err(entries.len())
 }
 
-// Puts an entry at its place among the first `len`.
+// Puts an entry at its place among the first `len`: a lent slice has no `insert`.
 pub(super) fn insert<K: Copy>(entries: &mut [Entry<K>], len: usize, at: usize, new: Entry<K>)
     requires { (at ≤ len) × (len < length entries.old) }
     ensures { entries.new ≡ take at entries.old ++ (new ∷ slice_range entries.old at len) ++ drop (len + 1) entries.old }
 {
     entries[len] = new;
-    entries[at..len + 1].rotate_right(1);
+    entries[at..=len].rotate_right(1);
 }
 
 // How often the key came.
