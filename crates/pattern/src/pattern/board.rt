@@ -10,6 +10,7 @@ use tables::{NetList, Tables};
 
 impl Pattern {
     // How many nets the pattern has: 1 to 16.
+    #[tactic(auto, using(tables::specs::Cuts::cuts_length))]
     pub fn net_count(&self) -> u16
         ensures value { result ≡ length (drawn self.now).nets }
         ensures some { 1 ≤ result }

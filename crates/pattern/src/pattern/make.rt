@@ -4,8 +4,8 @@ ghost use Rattle.pattern.specs.Whole.{Good};
 ghost use Rattle.pattern.specs.Faults.{Refused};
 ghost use Rattle.pattern.specs.Drawn.{drawn};
 
-use super::super::checks::check;
 use super::Pattern;
+use crate::checks::check;
 use arrayvec::ArrayVec;
 use circuit::Refusal;
 use tables::Tables;
