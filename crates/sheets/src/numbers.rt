@@ -4,7 +4,7 @@ ghost use Rattle.sheets.specs.Numbers.{shaped, numeral, at_most, factor, scaled,
 ghost use Rattle.sheets.specs.Reading.{text_of};
 
 use crate::entry::Kind;
-use crate::reader::{Field, Piece, Word};
+use crate::reader::Field;
 
 // 1 to 9 bytes, the first of several not 0.
 fn is_shaped(bytes: &[u8]) -> bool
@@ -61,9 +61,10 @@ pub(crate) fn number_to(field: Field<'_>, max: u16) -> Option<u16>
     ensures { result ≡ at_most max (numeral (text_of field.entry)) }
 {
     match field {
-        Field::Number(it) => u16::try_from(number(it.piece.bytes)?)
-            .ok()
-            .filter(|n| *n <= max),
+        Field::Number(it) => {
+            let n = u16::try_from(number(it.piece.bytes)?).ok()?;
+            (n <= max).then_some(n)
+        }
         Field::Word(_) => None,
     }
 }
@@ -94,14 +95,10 @@ pub(crate) fn kind_in(field: Field<'_>) -> Option<Kind>
     ensures { result ≡ kind_of (text_of field.entry) }
 {
     match field {
-        Field::Word(
-            Word {
-                piece: Piece {
-                    bytes: [letter],
-                    ..
-                },
-            },
-        ) => kind_of_letter(char::from(*letter)),
-        _ => None,
+        Field::Word(word) => match word.piece.bytes {
+            [letter] => kind_of_letter(char::from(*letter)),
+            _ => None,
+        },
+        Field::Number(_) => None,
     }
 }
