@@ -93,8 +93,6 @@ pub fn names_line(heap: Global, nets: u16) -> Result<String, AllocError>
 }
 
 // A hit line, read back, gives the numbers.
-pub fn hits_are_read_back() -> u8
+pub fn hits_are_read_back()
     ensures { HitBack }
-{
-    0
-}
+{}

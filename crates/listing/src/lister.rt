@@ -41,7 +41,10 @@ impl<'a, B: Board, S: Sieve<B>> Lister<'a, B, S> {
         ensures asked { Asked (searched B.Board.means S.Sieve.keeps self.old) (mark_of B.Board.means self.old self.old.search) (said (Ok result)) (mark_of B.Board.means self.old self.new.search) row.new }
         ensures only { OnlySearched self.old self.new }
     {
-        match self.search.next(self.pattern, self.board, self.sieve, FULL_BUDGET, row) {
+        match self
+            .search
+            .next(self.pattern, self.board, self.sieve, FULL_BUDGET, row)
+        {
             Ok(answer) => answer,
             Err(_) => unreachable(),
         }
@@ -101,6 +104,7 @@ pub fn list_hits<B: Board, W: Sink>(
         sieve: &sieve,
         search,
     };
+    // Hits come between the pauses, so no range counts these.
     let mut pauses: u16 = 0;
     loop {
         match lister.step(out)? {
@@ -138,6 +142,7 @@ pub fn list<W: Sink>(
     sheets: &Sheets<'_>,
     out: &mut W,
 ) -> Result<Outcome, Halt<W::Error>> {
+    // A fault is no error to pass on, but the list itself, so each of the two calls is matched.
     let circuits = match prepare(heap, sheets) {
         Ok(circuits) => circuits,
         Err(trouble) => return list_fault(heap, trouble, out),
