@@ -7,7 +7,7 @@ use boards::{Blanking, FlatBoard, check};
 use circuit::{Board, Reason, Refusal};
 use labels::{Measured, label_parts};
 use pattern::Pattern;
-use sheets::{Fault, File, NetTables, Rail, Trouble, load_nets, load_rows};
+use sheets::{Fault, File, NetTables, Rail, Trouble, load_nets, load_rails, load_rows};
 use std::alloc::Global;
 use tables::Tables;
 
@@ -81,7 +81,7 @@ pub fn prepare(heap: Global, sheets: &Sheets<'_>) -> Result<Circuits, Trouble> {
     let pattern_nets = load_nets(heap, File::PatternJoins, sheets.pattern_joins)?;
     let board_labels = load_rows::<Measured>(heap, File::BoardParts, sheets.board_parts)?;
     let nets = load_nets(heap, File::BoardJoins, sheets.board_joins)?;
-    let rails = load_rows::<Rail>(heap, File::BoardRails, sheets.board_rails)?;
+    let rails = load_rails(heap, sheets.board_rails)?;
     let labelled = label(heap, pattern_labels.as_slice(), board_labels.as_slice())?;
     let mut pattern = Pattern::smallest();
     pattern

@@ -12,6 +12,6 @@ mod rows;
 
 pub use entry::Rail;
 pub use fault::{Fault, File, Layer, Trouble};
-pub use load::{load_nets, load_rows};
+pub use load::{load_nets, load_rails, load_rows};
 pub use nets::NetTables;
 pub use reader::{Field, Number, Piece, Reader, Word};

@@ -1,9 +1,10 @@
 // Loading a sheet.
 ghost use Rattle.sheets.specs.Nets.{NetsLoaded};
 ghost use Rattle.sheets.specs.Sheets.{sheet_of, Loaded};
-ghost use Rattle.sheets.specs.Rows.{join_row, join_names};
+ghost use Rattle.sheets.specs.Rows.{join_row, rail_row, join_names, rail_names};
+ghost use Rattle.sheets.specs.declared.fault.File.TheVariants.{BoardRails};
 
-use crate::entry::Join;
+use crate::entry::{Join, Rail};
 use crate::fault::{Fault, File, Trouble};
 use crate::nets::{NetTables, net_tables};
 use crate::reader::Reader;
@@ -40,4 +41,11 @@ pub fn load_nets(heap: Global, file: File, bytes: &[u8]) -> Result<NetTables, Tr
 {
     let rows: Vec<Join> = load_rows(heap, file, bytes)?;
     Ok(net_tables(heap, rows.as_slice())?)
+}
+
+// The nets of the rails sheet, of which there is only one.
+pub fn load_rails(heap: Global, bytes: &[u8]) -> Result<Vec<Rail>, Trouble>
+    ensures { Loaded result (sheet_of rail_row BoardRails rail_names bytes.now) }
+{
+    load_rows(heap, File::BoardRails, bytes)
 }
