@@ -12,7 +12,7 @@ use std::alloc::Global;
 use tables::Tables;
 
 // The bytes of the five sheets; a missing one has none.
-#[derive(Clone, Copy)]
+#[derive(Clone, Copy, PartialEq, Eq, Debug)]
 pub struct Sheets<'a> {
     pub pattern_parts: &'a [u8],
     pub pattern_joins: &'a [u8],

@@ -6,7 +6,7 @@ use crate::entry::Join;
 use std::alloc::{AllocError, Global};
 
 // Net i's parts are the joins from the end of net i - 1, 0 for the first net, up to its own end.
-#[derive(Drop)]
+#[derive(PartialEq, Eq, Debug, Drop)]
 pub struct NetTables {
     pub ends: Vec<u16>,
     pub joins: Vec<u16>,

@@ -5,7 +5,7 @@ ghost use Rattle.tables.specs.Tables.{start};
 ghost use Rattle.tables.specs.Drawn.{drawn_in};
 
 // A class for each part, an end for each net, and the joins: they always travel together.
-#[derive(Clone, Copy)]
+#[derive(Clone, Copy, PartialEq, Eq, Debug)]
 pub struct Tables<'a> {
     pub classes: &'a [u16],
     pub ends: &'a [u16],
@@ -13,7 +13,7 @@ pub struct Tables<'a> {
 }
 
 // A net's list: a part of the joins, and where it begins there.
-#[derive(Clone, Copy)]
+#[derive(Clone, Copy, PartialEq, Eq, Debug)]
 pub struct NetList<'a> {
     pub place: usize,
     pub parts: &'a [u16],
