@@ -11,12 +11,7 @@ use tables::{Tables, holds};
 fn first_loose(n: u16, joins: &[u16]) -> Option<u16>
     ensures { MatchOption result (Covers joins.now n) (λ v. Loose n joins.now v) }
 {
-    for v in 0..n {
-        if !holds(joins, v) {
-            return Some(v);
-        }
-    }
-    None
+    (0..n).find(|v| !holds(joins, *v))
 }
 
 // Says what is wrong with tables that make no pattern.
