@@ -48,11 +48,6 @@ impl<'a> Taken<'a> {
         requires { length (B.Board.means board.now.circuit.now).classes ≤ length self.now.bytes.now }
         ensures { result ≡ first (λ v. (slice_index self.now.bytes.now v == 0) && in_cell (B.Board.means board.now.circuit.now) board.now.start.now cell.class cell.mask v) (length (B.Board.means board.now.circuit.now).classes) }
     {
-        for v in 0..board.parts() {
-            if self.bytes[v as usize] == 0 && board.in_cell(v, cell) {
-                return Some(v);
-            }
-        }
-        None
+        (0..board.parts()).find(|v| self.bytes[*v as usize] == 0 && board.in_cell(*v, cell))
     }
 }
