@@ -6,6 +6,7 @@ use Rattle.circuit.specs.declared.refusal.Refusal.{Refusal}
 use Rattle.tables.specs.Tables.{Spans, Closes}
 use Rattle.tables.specs.Faults.{WrongEnd, Stray, refused}
 use Rattle.tables.specs.declared.faults.Misfit.{Misfit}
+use Rattle.tables.specs.declared.lists.Tables.{Tables}
 
 pub record Limits (classes ends joins : List ℕ) : Type 0 where
   pub few_parts : length classes ≤ 4096
@@ -18,6 +19,9 @@ pub data Refused (classes ends joins : List ℕ) : Reason → ℕ → Type 0 whe
   end : (f : ℕ) → Limits classes ends joins → WrongEnd 0 ends joins f → Refused classes ends joins BoardEnd f
   -- a join that is no part, or not above the one before it in its net
   part_order : (k : ℕ) → Limits classes ends joins → Spans 0 ends → Closes ends joins → Stray (length classes) ends joins k → Refused classes ends joins BoardPartOrder k
+
+abbrev pub RefusedIn : Tables → Refusal → Type 0
+RefusedIn t e = Refused t.classes.now t.ends.now t.joins.now e.reason e.place
 
 -- the refusal for a wrong end or join
 abbrev pub by_misfit : Misfit → Refusal

@@ -4,13 +4,13 @@ ghost use Rattle.circuit.specs.Circuit.{net};
 ghost use Rattle.tables.specs.Tables.{start, Rises, Closes, Climbs, Below};
 ghost use Rattle.tables.specs.Drawn.{drawn_in};
 ghost use Rattle.tables.specs.Cuts.{sound};
-ghost use Rattle.boards.specs.Flat.{Good, flat_small};
-ghost use Rattle.boards.specs.Faults.{Refused};
+ghost use Rattle.boards.specs.Flat.{GoodIn, flat_small};
+ghost use Rattle.boards.specs.Faults.{RefusedIn};
 
 use circuit::{Board, Reason, Refusal};
 use tables::{NetList, Tables};
 
-#[derive(Clone, Copy)]
+#[derive(Clone, Copy, PartialEq, Eq, Debug)]
 pub struct FlatBoard<'a> {
     tables: Tables<'a>,
     ghost few_parts: { length tables.classes.now ≤ 4096 },
@@ -24,9 +24,7 @@ pub struct FlatBoard<'a> {
 
 // Says what is wrong with tables that make no board.
 pub fn check(tables: Tables<'_>) -> Result<(), Refusal>
-    ensures { MatchResult result
-        (λ _. Good tables.entry.classes.now tables.entry.ends.now tables.entry.joins.now)
-        (λ e. Refused tables.entry.classes.now tables.entry.ends.now tables.entry.joins.now e.reason e.place) }
+    ensures { MatchResult result (λ _. GoodIn tables.entry) (λ e. RefusedIn tables.entry e) }
 {
     if tables.classes.len() > 4096 || tables.ends.len() > 4096 || tables.joins.len() > 16384 {
         return Err(Refusal {
@@ -34,6 +32,7 @@ pub fn check(tables: Tables<'_>) -> Result<(), Refusal>
             place: 0,
         });
     }
+    // A match: what is found is the error, and no method of Option turns Some into Err.
     match tables.first_misfit(0) {
         Some(misfit) => Err(misfit.refusal(Reason::BoardEnd, Reason::BoardPartOrder)),
         None => Ok(()),
@@ -41,10 +40,10 @@ pub fn check(tables: Tables<'_>) -> Result<(), Refusal>
 }
 
 impl<'a> FlatBoard<'a> {
-    // From tables that `check` refuses, the board without parts or nets.
+    // From tables that `check` refuses, the board without parts or nets: to make a board never fails, and who wants the refusal asks `check`.
     pub fn make(tables: Tables<'a>) -> FlatBoard<'a>
-        ensures good { Good tables.entry.classes.now tables.entry.ends.now tables.entry.joins.now → (result.tables.classes.now ≡ tables.entry.classes.now) × (result.tables.ends.now ≡ tables.entry.ends.now) × (result.tables.joins.now ≡ tables.entry.joins.now) }
-        ensures bad { (Good tables.entry.classes.now tables.entry.ends.now tables.entry.joins.now → ⊥) → (result.tables.classes.now ≡ []) × (result.tables.ends.now ≡ []) × (result.tables.joins.now ≡ []) }
+        ensures good { GoodIn tables.entry → (result.tables.classes.now ≡ tables.entry.classes.now) × (result.tables.ends.now ≡ tables.entry.ends.now) × (result.tables.joins.now ≡ tables.entry.joins.now) }
+        ensures bad { (GoodIn tables.entry → ⊥) → (result.tables.classes.now ≡ []) × (result.tables.ends.now ≡ []) × (result.tables.joins.now ≡ []) }
     {
         match check(tables) {
             Ok(()) => FlatBoard { tables },

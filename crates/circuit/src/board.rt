@@ -33,14 +33,14 @@ pub trait Board {
         ensures { result ≡ on (means self.now) v f };
 }
 
-// A part's class, 0 off the board.
+// A part's class, 0 off the board: for callers that hold a part of the board, and owe no proof that it is one.
 pub fn class_of<B: Board>(board: &B, v: u16) -> u16
     ensures { result ≡ class (B.Board.means board.now) v }
 {
     board.class(v).unwrap_or(0)
 }
 
-// The k-th part of a net, 0 where there is none.
+// The k-th part of a net, 0 where there is none, for callers that stay below the net's size.
 pub fn part_of<B: Board>(board: &B, f: u16, k: u16) -> u16
     ensures { result ≡ slice_index (net (B.Board.means board.now) f) k }
 {

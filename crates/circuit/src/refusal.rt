@@ -47,7 +47,7 @@ impl Reason {
     }
 }
 
-// A refusal: its reason, and the place that the reason speaks of, 0 where it speaks of none.
+// A refusal: its reason, and the place that the reason speaks of, 0 where it speaks of none, as users see it in a fault line.
 #[derive(Clone, Copy, PartialEq, Eq, Debug)]
 pub struct Refusal {
     pub reason: Reason,

@@ -91,6 +91,13 @@ fn show_case<L: Sample>(rt: &HostRuntime, sort: &str, case: &Case<Sides>) -> any
     Ok(())
 }
 
+fn show_cases<L: Sample>(rt: &HostRuntime, sort: &str) -> anyhow::Result<()> {
+    for case in CASES.iter() {
+        show_case::<L>(rt, sort, case)?;
+    }
+    Ok(())
+}
+
 // Both class tables whole, each one entry longer than its labels.
 fn show_whole<L: Label>(
     rt: &HostRuntime,
@@ -135,11 +142,6 @@ fn show_worked(rt: &HostRuntime) -> anyhow::Result<()> {
 
 pub fn show(rt: &HostRuntime) -> anyhow::Result<()> {
     show_worked(rt)?;
-    for case in CASES.iter() {
-        show_case::<Measured>(rt, "measured", case)?;
-    }
-    for case in CASES.iter() {
-        show_case::<Catalogue>(rt, "catalogue", case)?;
-    }
-    Ok(())
+    show_cases::<Measured>(rt, "measured")?;
+    show_cases::<Catalogue>(rt, "catalogue")
 }

@@ -21,6 +21,7 @@ fn run_step<B: Board>(
     step: Step,
 ) -> anyhow::Result<()> {
     let before = Tables::read(rt.alloc(), layer)?;
+    // A step is data that is printed too, so it is matched here and is no closure.
     let answer = match step {
         Step::Blank(net) => layer.blank(net),
         Step::Show(net) => layer.show(net),

@@ -43,6 +43,7 @@ impl fmt::Display for Reply {
     }
 }
 
+// A question is data that is printed too, so it is matched here and is no closure.
 pub fn reply_of<B: Board>(board: &B, question: Question) -> Reply {
     match question {
         Question::Parts => Reply::Number(Found(Some(board.parts()))),

@@ -24,7 +24,7 @@ impl Sink for Record {
     }
 }
 
-#[derive(Clone, Copy)]
+#[derive(Clone, Copy, PartialEq, Eq, Debug)]
 struct Case {
     name: &'static str,
     file: File,

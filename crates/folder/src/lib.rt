@@ -29,7 +29,7 @@ impl<'a> Sink for Printer<'a> {
     }
 }
 
-// What went wrong, and with what.
+// What went wrong, with what and why, in one line; anyhow's context would put the cause on a line of its own.
 fn told(what: &str, path: &str, e: io::Error) -> anyhow::Error {
     anyhow!("cannot {what} {path}: {e}")
 }
@@ -40,8 +40,9 @@ fn read_sheet(rt: &HostRuntime, folder: &str, name: &str) -> anyhow::Result<Vec<
     let path = format!(in heap; "{folder}/{name}")?;
     let mut bytes = Vec::new(heap);
     let file = match fs::open(rt, path.as_str()) {
+        Ok(file) => file,
         Err(e) if e.kind() == ErrorKind::NotFound => return Ok(bytes),
-        opened => opened.map_err(|e| told("read", path.as_str(), e))?,
+        Err(e) => return Err(told("read", path.as_str(), e)),
     };
     file.take(MOST_BYTES)
         .read_to_end(&mut bytes)

@@ -63,7 +63,7 @@ impl Label for Measured {
 }
 
 // A label by its number in a catalogue; 0 is no entry.
-#[derive(Clone, Copy, Debug, PartialEq)]
+#[derive(Clone, Copy, Debug, PartialEq, Eq)]
 pub struct Catalogue(pub u32);
 
 impl Label for Catalogue {

@@ -32,6 +32,7 @@ fn check_fit<L: Label>(labels: &[L], start: usize) -> Result<(), Refusal>
     requires { start + length labels.now < 2 ^ 64 }
     ensures { result ≡ (if nat_lt (unfit L.proper labels.now) (length labels.now) then refused UnfitLabel (start + unfit L.proper labels.now) else Ok tt) }
 {
+    // A match: what is found is the error, and no method of Option turns Some into Err.
     match first_unfit(labels) {
         Some(place) => Err(Refusal {
             reason: Reason::UnfitLabel,

@@ -77,7 +77,7 @@ impl<'a, B: Board, S: Sieve<B>> Lister<'a, B, S> {
     }
 }
 
-// Writes how the search ended, the last line of a list.
+// Writes how the search ended, the last line of a list. The allocator and the sink stay parameters, as in std: both are lent for a call.
 fn put_ending<W: Sink>(heap: Global, ending: Ending, out: &mut W) -> Result<Outcome, Halt<W::Error>>
     ensures { IfOk result (λ o. (o ≡ outcome_of ending) × W.Sink.writes out.old (ending_line ending) out.new) }
 {

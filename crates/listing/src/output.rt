@@ -25,6 +25,7 @@ pub enum Halt<E> {
     Output(E),
 }
 
+// Written out, so that the bytes it writes are stated, which a derive would not do.
 impl<E: fmt::Display> fmt::Display for Halt<E> {
     ghost output = { halt_text E.output };
 

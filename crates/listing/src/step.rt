@@ -4,7 +4,7 @@ ghost use Rattle.listing.specs.Listed.{outcome_of};
 
 use lines::Ending;
 
-// What one call of next led to: a hit that was written, the end, or a pause.
+// What one call of next led to: a hit that was written, the end, or a pause. The tries of its answer are left out, since a list does not tell them.
 #[derive(Clone, Copy, PartialEq, Eq, Debug)]
 pub enum Step {
     Found,

@@ -8,6 +8,7 @@ use Rattle.tables.specs.declared.faults.Misfit.{Misfit}
 use Rattle.tables.specs.Tables.{Spans, Closes}
 use Rattle.tables.specs.Faults.{WrongEnd, Stray, Fitting, refused}
 use Rattle.pattern.specs.Whole.{Covers}
+use Rattle.tables.specs.declared.lists.Tables.{Tables}
 
 pub record Limits (classes ends : List ℕ) : Type 0 where
   pub some_nets : 1 ≤ length ends
@@ -25,6 +26,9 @@ pub data Refused (classes ends joins : List ℕ) : Reason → ℕ → Type 0 whe
   -- a part on no net
   loose_part : (v : ℕ) → Limits classes ends → Fitting (length classes) 1 ends joins → v < length classes
       → ((w : ℕ) → w < v → member joins w ≡ true) → member joins v ≡ false → Refused classes ends joins LoosePart v
+
+abbrev pub RefusedIn : Tables → Refusal → Type 0
+RefusedIn t e = Refused t.classes.now t.ends.now t.joins.now e.reason e.place
 
 -- the refusal for a wrong end or join
 abbrev pub by_misfit : Misfit → Refusal

@@ -3,6 +3,7 @@ use Rattle.std.specs.Prelude.{◌≡◌, ℕ, ◌<◌, ◌≤◌, true, List, le
 use Rattle.std.specs.List.{AllByRecursion}
 use Rattle.circuit.specs.Circuit.{Circuit, Sound, In, parts, N, member}
 use Rattle.tables.specs.Tables.{Spans, Closes, Climbs, Below}
+use Rattle.tables.specs.declared.lists.Tables.{Tables}
 
 -- each of n parts is on some net
 abbrev pub Covers : List ℕ → ℕ → Type 0
@@ -19,6 +20,9 @@ pub record Good (classes ends joins : List ℕ) : Type 0 where
   pub climbs : Climbs ends joins
   pub under : Below joins (length classes)
   pub covers : Covers joins (length classes)
+
+abbrev pub GoodIn : Tables → Type 0
+GoodIn t = Good t.classes.now t.ends.now t.joins.now
 
 -- the same of a circuit: 1 to 16 nets, 1 to 64 parts, each net an ascending list of parts and none empty, each part on some net
 pub record Whole (c : Circuit) : Type 0 where

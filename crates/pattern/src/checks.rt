@@ -1,8 +1,8 @@
 // Whether three tables make a pattern.
 ghost use Rattle.std.specs.Prelude.{◌≡◌, ℕ, ◌<◌, true, false, MatchOption, MatchResult};
 ghost use Rattle.circuit.specs.Circuit.{member};
-ghost use Rattle.pattern.specs.Whole.{Covers, Good};
-ghost use Rattle.pattern.specs.Faults.{Loose, Refused};
+ghost use Rattle.pattern.specs.Whole.{Covers, GoodIn};
+ghost use Rattle.pattern.specs.Faults.{Loose, RefusedIn};
 
 use circuit::{Reason, Refusal};
 use tables::{Tables, holds};
@@ -16,9 +16,7 @@ fn first_loose(n: u16, joins: &[u16]) -> Option<u16>
 
 // Says what is wrong with tables that make no pattern.
 pub fn check(tables: Tables<'_>) -> Result<(), Refusal>
-    ensures { MatchResult result
-        (λ _. Good tables.entry.classes.now tables.entry.ends.now tables.entry.joins.now)
-        (λ e. Refused tables.entry.classes.now tables.entry.ends.now tables.entry.joins.now e.reason e.place) }
+    ensures { MatchResult result (λ _. GoodIn tables.entry) (λ e. RefusedIn tables.entry e) }
 {
     if tables.ends.is_empty() || tables.ends.len() > 16 {
         return Err(Refusal {
@@ -35,6 +33,7 @@ pub fn check(tables: Tables<'_>) -> Result<(), Refusal>
     if let Some(misfit) = tables.first_misfit(1) {
         return Err(misfit.refusal(Reason::NetEnd, Reason::PartOrder));
     }
+    // A match: what is found is the error, and no method of Option turns Some into Err.
     match first_loose(tables.classes.len() as u16, tables.joins) {
         Some(v) => Err(Refusal {
             reason: Reason::LoosePart,

@@ -19,11 +19,11 @@ pub fn load_rows<R: Row>(heap: Global, file: File, bytes: &[u8]) -> Result<Vec<R
     ensures { Loaded result (sheet_of R.judged file R.heading bytes.now) }
 {
     if bytes.len() > MAX_BYTES {
-        return Err(Trouble::Faulty(Fault::new(file, Reason::SheetSize, 0, 0)));
+        return Err(Fault::new(file, Reason::SheetSize, 0, 0).into());
     }
     let mut reader = Reader::over(bytes);
     if !reader.step() || !reader.is_line(R::names()) {
-        return Err(Trouble::Faulty(Fault::new(file, Reason::NamesLine, 1, 0)));
+        return Err(Fault::new(file, Reason::NamesLine, 1, 0).into());
     }
     let mut rows: Vec<R> = Vec::new(heap);
     while reader.step() {
@@ -43,7 +43,7 @@ pub fn load_nets(heap: Global, file: File, bytes: &[u8]) -> Result<NetTables, Tr
     Ok(net_tables(heap, rows.as_slice())?)
 }
 
-// The nets of the rails sheet, of which there is only one.
+// The rows of the rails sheet. There is one such sheet, so the file is no parameter.
 pub fn load_rails(heap: Global, bytes: &[u8]) -> Result<Vec<Rail>, Trouble>
     ensures { Loaded result (sheet_of rail_row BoardRails rail_names bytes.now) }
 {

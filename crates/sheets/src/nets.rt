@@ -28,6 +28,7 @@ fn rows_up_to(rows: &[Join], net: usize) -> usize
         .count()
 }
 
+// Allocator and rows are parameters here and below, as in std: a struct of the two would only be taken apart again.
 // A net that the rows skip ends where the net before it ends.
 fn net_ends(heap: Global, rows: &[Join]) -> Result<Vec<u16>, AllocError>
     requires { length rows.now ≤ 16384 }

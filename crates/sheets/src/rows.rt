@@ -66,7 +66,8 @@ pub trait Row: Copy {
     fn names() -> &'static [u8]
         ensures { result.now ≡ heading };
 
-    // The row that the reader's line has, after the rows before it.
+    // The row that the reader's line has, after the rows before it. Each kind of row tests its own limits, in the order of their numbers.
+    // That the line is fresh is asked of the reader and is no type of its own: a reader goes over the sheet with one cursor, field after field.
     fn read(reader: &mut Reader<'_>, before: &[Self]) -> Result<Self, Refusal>
         requires { Fresh reader.old }
         ensures answer { result ≡ judged before.now (here reader.old) }
@@ -89,7 +90,7 @@ impl Row for Join {
             Reason::NumberField,
             second.place(),
         ))?;
-        if net < before.last().map_or(0, |join| join.net) {
+        if before.last().is_some_and(|join| net < join.net) {
             return Err(refusal(Reason::NetOrder, 0));
         }
         if before.len() >= MAX_JOINS {
@@ -111,7 +112,7 @@ impl Row for Rail {
     fn read(reader: &mut Reader<'_>, before: &[Rail]) -> Result<Rail, Refusal> {
         let field = reader.single().ok_or(refusal(Reason::FieldCount, 0))?;
         let net = number_to(field, MAX_INDEX).ok_or(refusal(Reason::NumberField, field.place()))?;
-        if net < before.last().map_or(0, |rail| rail.net) {
+        if before.last().is_some_and(|rail| net < rail.net) {
             return Err(refusal(Reason::NetOrder, 0));
         }
         if before.len() >= MAX_RAILS {

@@ -15,6 +15,7 @@ mod table;
 pub use counts::{CountsSieve, same_counts};
 pub use table::TableSieve;
 
+// A sieve keeps neither pattern nor board: both are lent to each call, and may be others than it was readied for.
 pub trait Sieve<B: Board> {
     // Which starts it keeps, for a pattern and a board.
     ghost keeps: { Self → Circuit → Circuit → List ℕ → Bool };

@@ -82,6 +82,7 @@ impl<'a> NetList<'a> {
     }
 }
 
+// No binary search: tables that nobody has checked may have lists that do not ascend.
 pub fn holds(parts: &[u16], v: u16) -> bool
     ensures { result ≡ member parts.now v }
 {

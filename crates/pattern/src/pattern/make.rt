@@ -1,7 +1,7 @@
 ghost use Rattle.std.specs.Prelude.{◌≡◌, ◌≤◌, [], ◌∷◌, length, MatchResult};
 ghost use Rattle.tables.specs.Drawn.{drawn_in};
-ghost use Rattle.pattern.specs.Whole.{Good};
-ghost use Rattle.pattern.specs.Faults.{Refused};
+ghost use Rattle.pattern.specs.Whole.{GoodIn};
+ghost use Rattle.pattern.specs.Faults.{RefusedIn};
 ghost use Rattle.pattern.specs.Drawn.{drawn};
 
 use super::Pattern;
@@ -33,8 +33,8 @@ impl Pattern {
     // Fills the pattern from three tables, or says what is wrong with them and leaves it.
     pub fn make(&mut self, tables: Tables<'_>) -> Result<(), Refusal>
         ensures { MatchResult result
-            (λ _. Good tables.entry.classes.now tables.entry.ends.now tables.entry.joins.now × (drawn self.new ≡ drawn_in tables.entry))
-            (λ e. Refused tables.entry.classes.now tables.entry.ends.now tables.entry.joins.now e.reason e.place × (self.new ≡ self.old)) }
+            (λ _. GoodIn tables.entry × (drawn self.new ≡ drawn_in tables.entry))
+            (λ e. RefusedIn tables.entry e × (self.new ≡ self.old)) }
     {
         check(tables)?;
         *self = Pattern {

@@ -10,6 +10,7 @@ use crate::lists::Tables;
 fn stray_in(n: usize, list: &[u16]) -> Option<usize>
     ensures { MatchOption result ((k : ℕ) → k < length list.now → Fine n list.now 0 k) (λ k. StrayIn n list.now k) }
 {
+    // A loop, and no `position`: it carries on the least number that may follow.
     let mut least = 0;
     for (k, part) in list.iter().enumerate() {
         let v = *part as usize;
@@ -26,6 +27,7 @@ impl<'a> Tables<'a> {
     fn first_wrong_end(self, least: u16) -> Option<usize>
         ensures { MatchOption result (Spans least self.entry.ends.now × Closes self.entry.ends.now self.entry.joins.now) (λ f. WrongEnd least self.entry.ends.now self.entry.joins.now f) }
     {
+        // A loop, and no `position`: a net begins where the one before it ended, which the loop carries on.
         let mut from = 0;
         for (f, end) in self.ends.iter().enumerate() {
             let to = *end as usize;
@@ -46,6 +48,7 @@ impl<'a> Tables<'a> {
         requires closes { Closes self.ends.now self.joins.now }
         ensures { MatchOption result (AllFine (length self.entry.classes.now) self.entry.ends.now self.entry.joins.now (length self.entry.ends.now)) (λ k. Stray (length self.entry.classes.now) self.entry.ends.now self.entry.joins.now k) }
     {
+        // A loop, and no `find_map`, for the same reason.
         let mut from = 0;
         for end in self.ends {
             let to = *end as usize;
@@ -63,6 +66,7 @@ impl<'a> Tables<'a> {
             (Fitting (length self.entry.classes.now) least self.entry.ends.now self.entry.joins.now)
             (λ m. Wrong (length self.entry.classes.now) least self.entry.ends.now self.entry.joins.now m) }
     {
+        // A match, and no or_else: to look for a stray join is safe only where no end is wrong.
         match self.first_wrong_end(least) {
             Some(net) => Some(Misfit::End(net)),
             None => Some(Misfit::Join(self.first_stray()?)),
