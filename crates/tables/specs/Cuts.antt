@@ -81,3 +81,11 @@ module _ (classes ends joins : List ℕ) (rises : Rises ends) (closes : Closes e
           let a = net_read f k h l in
           let u = under (start ends f + k) (omega arith) in
           omega (arith, a, u)
+
+-- a net has at most as many parts as there are joins
+pub net_small : (ends joins : List ℕ) (f : ℕ) → length (slice_index_or (cuts 0 ends joins) f []) ≤ length joins
+net_small ends joins f =
+    ⊎_elim
+    (λ h. let e = ap length (cuts_at 0 ends joins f h) in let t = length-take (slice_index ends f - start ends f) (drop (start ends f) joins) in let d = length-drop (start ends f) joins in omega (arith, e, t, d))
+    (λ h. omega (arith, ap length (cuts_past 0 ends joins f h)))
+    (cases_lt f (length ends))

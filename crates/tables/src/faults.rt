@@ -4,7 +4,7 @@ ghost use Rattle.tables.specs.Faults.{refused};
 
 use circuit::{Reason, Refusal};
 
-mod checks;
+pub mod checks;
 
 // A net's end, by the net, the last end by the number of nets; or a join, by its place.
 #[derive(Clone, Copy, PartialEq, Eq, Debug)]

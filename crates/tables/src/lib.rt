@@ -5,4 +5,5 @@ mod faults;
 mod lists;
 
 pub use faults::Misfit;
-pub use lists::{NetList, Tables, holds};
+pub use faults::checks::first_misfit;
+pub use lists::{NetList, Tables, holds, net_list};

@@ -1,7 +1,7 @@
 // The three tables, a net's list among the joins, and whether a list holds a part.
-ghost use Rattle.std.specs.Prelude.{◌≡◌, ◌<◌, min, length, if◌then◌else◌, nat_lt, slice_index};
+ghost use Rattle.std.specs.Prelude.{◌≡◌, ◌<◌, ℕ, List, min, length, if◌then◌else◌, nat_lt, slice_index};
 ghost use Rattle.circuit.specs.Circuit.{at, member, net};
-ghost use Rattle.tables.specs.Tables.{start};
+ghost use Rattle.tables.specs.Tables.{circuit_of, start};
 ghost use Rattle.tables.specs.Drawn.{drawn_in};
 
 // A class for each part, an end for each net, and the joins: they always travel together.
@@ -29,34 +29,42 @@ impl<'a> Tables<'a> {
         self.classes.get(v as usize).copied()
     }
 
-    // Where net f begins: where the net before it ends.
-    fn start_of(self, f: usize) -> usize
-        ensures { result ≡ start self.entry.ends.now f }
-    {
-        if f == 0 {
-            return 0;
-        }
-        self.ends.get(f - 1).copied().unwrap_or(0) as usize
-    }
-
     // The list of net f, empty off the tables and where the ends do not fit the joins.
     pub fn net(self, f: u16) -> NetList<'a>
         ensures list { result.parts.now ≡ net (drawn_in self.entry) f }
         ensures place { result.place ≡ (if nat_lt f (length self.entry.ends.now) then min (start self.entry.ends.now f) (min (slice_index self.entry.ends.now f) (length self.entry.joins.now)) else 0) }
     {
-        let f = f as usize;
-        let Some(end) = self.ends.get(f).copied() else {
-            return NetList {
-                place: 0,
-                parts: &[],
-            };
+        net_list(self.ends, self.joins, f)
+    }
+}
+
+// Where net f begins: where the net before it ends.
+fn start_of(ends: &[u16], f: usize) -> usize
+    ensures { result ≡ start ends.now f }
+{
+    if f == 0 {
+        return 0;
+    }
+    ends.get(f - 1).copied().unwrap_or(0) as usize
+}
+
+// The same without classes, for whoever has none, and as long as the joins are lent.
+pub fn net_list<'a>(ends: &[u16], joins: &'a [u16], f: u16) -> NetList<'a>
+    ensures list { (classes : List ℕ) → result.parts.now ≡ net (circuit_of classes ends.now joins.now) f }
+    ensures place { result.place ≡ (if nat_lt f (length ends.now) then min (start ends.now f) (min (slice_index ends.now f) (length joins.now)) else 0) }
+{
+    let f = f as usize;
+    let Some(end) = ends.get(f).copied() else {
+        return NetList {
+            place: 0,
+            parts: &[],
         };
-        let to = (end as usize).min(self.joins.len());
-        let from = self.start_of(f).min(to);
-        NetList {
-            place: from,
-            parts: &self.joins[from..to],
-        }
+    };
+    let to = (end as usize).min(joins.len());
+    let from = start_of(ends, f).min(to);
+    NetList {
+        place: from,
+        parts: &joins[from..to],
     }
 }
 

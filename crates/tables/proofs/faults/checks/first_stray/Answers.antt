@@ -3,19 +3,17 @@ use Rattle.tables.specs.Tables.{start}
 use Rattle.tables.specs.Faults.{Fine, StrayIn, Stray}
 use Rattle.tables.specs.Cuts.{end_within}
 use Rattle.tables.proofs.Nets.{fine_more, stray_more}
-use Rattle.tables.proofs.lists.Tables.first_stray.Goals as goal
+use Rattle.tables.proofs.faults.checks.first_stray.Goals as goal
 
 pub slice_bounds-stray_in-end : goal.slice_bounds-stray_in-end
 slice_bounds-stray_in-end c =
-    let t = c.args.self in
-    omega (arith, end_within t.ends.now t.joins.now c.loop-end.end-index c.requires.rises c.requires.closes c.loop-end-test.true)
+    omega (arith, end_within c.args.ends.now c.args.joins.now c.loop-end.end-index c.requires.rises c.requires.closes c.loop-end-test.true)
 
 pub returns-in-Some : goal.returns-in-Some
 returns-in-Some c =
-    let t = c.args.self in
-    let n = length t.classes.now in
-    let es = t.ends.now in
-    let js = t.joins.now in
+    let n = c.args.n in
+    let es = c.args.ends.now in
+    let js = c.args.joins.now in
     let i = c.loop-end.end-index in
     let k = c.in-Some.k in
     let room = end_within es js i c.requires.rises c.requires.closes c.loop-end-test.true in
@@ -24,10 +22,9 @@ returns-in-Some c =
 
 pub loop-end-preserved : goal.loop-end-preserved
 loop-end-preserved c =
-    let t = c.args.self in
-    let n = length t.classes.now in
-    let es = t.ends.now in
-    let js = t.joins.now in
+    let n = c.args.n in
+    let es = c.args.ends.now in
+    let js = c.args.joins.now in
     let i = c.loop-end.end-index in
     let room = end_within es js i c.requires.rises c.requires.closes c.loop-end-test.true in
     let F : ℕ → Type 0 = λ (x : ℕ). (k : ℕ) → k < length (slice_range js x (get_or es i 0)) → Fine n (slice_range js x (get_or es i 0)) 0 k in

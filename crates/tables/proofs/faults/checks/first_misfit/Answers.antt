@@ -2,14 +2,13 @@ use Rattle.std.proofs.Common.{Option, MatchOption, length, sym, subst}
 use Rattle.tables.specs.Faults.{Fitting, Wrong}
 use Rattle.tables.specs.declared.faults.Misfit.{Misfit}
 use Rattle.tables.proofs.Checks.{climbs, under, rises_from_spans}
-use Rattle.tables.proofs.lists.Tables.first_misfit.Goals as goal
+use Rattle.tables.proofs.faults.checks.first_misfit.Goals as goal
 
 pub returns-in_err-first_stray-in-None : goal.returns-in_err-first_stray-in-None
 returns-in_err-first_stray-in-None c =
-    let t = c.args.self in
-    let n = length t.classes.now in
-    let es = t.ends.now in
-    let js = t.joins.now in
+    let n = c.args.n in
+    let es = c.args.ends.now in
+    let js = c.args.joins.now in
     let (spans, closes) = c.in-None.ensures in
     let all = c.in_err-first_stray-in-None.ensures in
     let rises = rises_from_spans c.args.least es spans in
