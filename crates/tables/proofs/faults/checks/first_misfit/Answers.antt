@@ -1,4 +1,4 @@
-use Rattle.std.proofs.Common.{Option, MatchOption, length, sym, subst}
+use Rattle.std.proofs.Common.{Option, MatchOption, sym, subst}
 use Rattle.tables.specs.Faults.{Fitting, Wrong}
 use Rattle.tables.specs.declared.faults.Misfit.{Misfit}
 use Rattle.tables.proofs.Checks.{climbs, under, rises_from_spans}

@@ -1,4 +1,4 @@
-use Rattle.std.proofs.Common.{◌≡◌, length}
+use Rattle.std.proofs.Common.{◌≡◌}
 use Rattle.tables.specs.Tables.{start}
 use Rattle.tables.specs.Faults.{AllFine}
 use Rattle.tables.proofs.faults.checks.first_stray.Given as goal
