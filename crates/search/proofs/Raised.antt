@@ -17,12 +17,17 @@ levels_below N [] = refl
 levels_below N (l ∷ ls) = ap (λ (t : Bool). ltb l.net N && t) (levels_below N ls)
 
 -- the last of the levels in use, l, after the others
-pub split_last : (ls : List Level) (l : Level) → 0 < length ls → l ≡ get_or ls (length ls - 1) l → nets ls ≡ nets (take (length ls - 1) ls) ++ l.net ∷ []
+split_last : (ls : List Level) (l : Level) → 0 < length ls → l ≡ get_or ls (length ls - 1) l → nets ls ≡ nets (take (length ls - 1) ls) ++ l.net ∷ []
 split_last ls l some e =
     let i = length ls - 1 in
     sym (ap nets (take_all (i + 1) ls (omega arith)))
     ∙ map_more (λ (x : Level). x.net) ls i l (omega arith)
     ∙ ap (λ (x : Level). nets (take i ls) ++ x.net ∷ []) (sym e)
+
+-- the same of the level that is lent from them
+pub last_lent : (ls ys : List Level) (l : Level) → ys ≡ ls → (0 < length ys) × ((d : Level) → l ≡ get_or ys (length ys - 1) d) → (0 < length ls) × (nets ls ≡ nets (take (length ls - 1) ls) ++ l.net ∷ [])
+last_lent ls ys l e h =
+    subst (λ zs. (0 < length zs) × (nets zs ≡ nets (take (length zs - 1) zs) ++ l.net ∷ [])) e (h.0, split_last ys l h.0 (h.1 l))
 
 pub set_last : (ls : List Level) (l : Level) → 0 < length ls → nets (set ls (length ls - 1) l) ≡ nets (take (length ls - 1) ls) ++ l.net ∷ []
 set_last ls l some =

@@ -46,7 +46,7 @@ impl Search {
             && self.levels.iter().all(|level| level.net < span.nets)
     }
 
-    // The numbers of the levels.
+    // The numbers of the levels, in front of a plain array: pushed into an `ArrayVec` they made a listing 15 percent slower.
     fn numbers(&self) -> [u16; 16]
         ensures { take (length self.now.levels.items) result ≡ held self.now }
     {
