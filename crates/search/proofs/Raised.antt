@@ -1,57 +1,71 @@
 -- The levels of a search: raised and tested one by one.
-use Rattle.std.proofs.Common.{◌≡◌, ℕ, zero, suc, ◌+◌, ◌<◌, ◌≤◌, Bool, true, false, ◌&&◌, ltb, ◌⊎◌, List, [], ◌∷◌, ◌++◌, length, get_or, take, set, sym, refl, ap, ◌∙◌, subst, inl, inr, arith}
+use Rattle.std.proofs.Common.{◌≡◌, ℕ, ◌+◌, ◌-◌, ◌<◌, ◌≤◌, Bool, false, ◌&&◌, ltb, ◌⊎◌, List, [], ◌∷◌, ◌++◌, length, get_or, take, set, sym, refl, ap, ◌∙◌, subst, inl, inr, arith}
 use Rattle.std.proofs.lemmas.Bool.{cond-true, cond-false, cond_both, lt-ltb, le-ltb}
-use Rattle.std.proofs.lemmas.List.{take_more, take_more_set, length-take-le}
+use Rattle.std.proofs.lemmas.List.{take_all, take-set, take_more_set, map_more, map-append, length-set}
 use Rattle.circuit.specs.Circuit.{AllBelow, are_below}
 use Rattle.promise.specs.Order.{at}
 use Rattle.promise.specs.Search.{raise}
-use Rattle.std.specs.List.{list_all}
+use Rattle.std.specs.List.{list_all, refill}
+use Rattle.arrayvec.proofs.ArrayVecLemmas.{items-with_items}
 use Rattle.search.specs.Held.{standing, moved, nets}
 use Rattle.search.specs.declared.bookmark.Level.{Level}
-use Rattle.promise.proofs.Order.{raise_last, raise_fine, Fine, all_below_push}
+use Rattle.promise.proofs.Order.{raise_last, raise_fine, Fine}
 
 -- every level is below N
 pub levels_below : (N : ℕ) (ls : List Level) → list_all (λ (l : Level). ltb l.net N) ls ≡ are_below N (nets ls)
 levels_below N [] = refl
 levels_below N (l ∷ ls) = ap (λ (t : Bool). ltb l.net N && t) (levels_below N ls)
 
-pub below_at : (N : ℕ) (xs : List ℕ) (n i : ℕ) → i < n → i < length xs → AllBelow N (take n xs) → get_or xs i 0 < N
-below_at N [] n i l m b = absurd (omega arith)
-below_at N (x ∷ xs) zero i l m b = absurd (omega arith)
-below_at N (x ∷ xs) (suc n) zero l m b = b.0
-below_at N (x ∷ xs) (suc n) (suc i) l m b = below_at N xs n i (omega arith) (omega arith) b.1
+-- the last of the levels in use, l, after the others
+split_last : (ls : List Level) (l : Level) → 0 < length ls → l ≡ get_or ls (length ls - 1) l → nets ls ≡ nets (take (length ls - 1) ls) ++ l.net ∷ []
+split_last ls l some e =
+    let i = length ls - 1 in
+    sym (ap nets (take_all (i + 1) ls (omega arith)))
+    ∙ map_more (λ (x : Level). x.net) ls i l (omega arith)
+    ∙ ap (λ (x : Level). nets (take i ls) ++ x.net ∷ []) (sym e)
 
-pub below_fewer : (N : ℕ) (xs : List ℕ) (n i : ℕ) → i ≤ n → AllBelow N (take n xs) → AllBelow N (take i xs)
-below_fewer N xs n zero l b = tt
-below_fewer N [] n (suc i) l b = tt
-below_fewer N (x ∷ xs) zero (suc i) l b = absurd (omega arith)
-below_fewer N (x ∷ xs) (suc n) (suc i) l b = (b.0, below_fewer N xs n i (omega arith) b.1)
+-- the same of the level that is lent from them
+pub last_lent : (ls ys : List Level) (l : Level) → ys ≡ ls → (0 < length ys) × ((d : Level) → l ≡ get_or ys (length ys - 1) d) → (0 < length ls) × (nets ls ≡ nets (take (length ls - 1) ls) ++ l.net ∷ [])
+last_lent ls ys l e h =
+    subst (λ zs. (0 < length zs) × (nets zs ≡ nets (take (length zs - 1) zs) ++ l.net ∷ [])) e (h.0, split_last ys l h.0 (h.1 l))
+
+pub set_last : (ls : List Level) (l : Level) → 0 < length ls → nets (set ls (length ls - 1) l) ≡ nets (take (length ls - 1) ls) ++ l.net ∷ []
+set_last ls l some =
+    let i = length ls - 1 in
+    sym (ap nets (take_all (i + 1) (set ls i l) (omega (arith, length-set ls i l))))
+    ∙ ap nets (take_more_set ls i l (omega arith))
+    ∙ map-append (λ (x : Level). x.net) (take i ls) (l ∷ [])
+
+-- the levels once the last was lent and left as l
+pub lent : (ls ys : List Level) (l : Level) → ys ≡ ls → refill (length ls) ls (set ys (length ys - 1) l) ≡ set ls (length ls - 1) l
+lent ls ys l e =
+    ap (λ zs. refill (length ls) ls (set zs (length zs - 1) l)) e
+    ∙ items-with_items (record { items = ls }) (set ls (length ls - 1) l) (length-set ls (length ls - 1) l)
+
+-- and those that are left once it is removed
+pub left : (ls ys : List Level) (l : Level) → ys ≡ ls → let zs = refill (length ls) ls (set ys (length ys - 1) l) in take (length zs - 1) zs ≡ take (length ls - 1) ls
+left ls ys l e =
+    ap (λ zs. take (length zs - 1) zs) (lent ls ys l e)
+    ∙ ap (λ n. take (n - 1) (set ls (length ls - 1) l)) (length-set ls (length ls - 1) l)
+    ∙ take-set ls (length ls - 1) l
+
+pub below_parts : (N : ℕ) (s : List ℕ) (x : ℕ) → AllBelow N (s ++ x ∷ []) → AllBelow N s × (x < N)
+below_parts N [] x b = (tt, b.0)
+below_parts N (y ∷ ys) x b =
+    let r = below_parts N ys x b.1 in
+    ((b.0, r.0), r.1)
 
 pub standing_push : (s : List ℕ) (x : ℕ) → standing (s ++ x ∷ []) ≡ at (s ++ x ∷ [])
 standing_push [] x = refl
 standing_push (y ∷ ys) x = refl
 
 -- the last level is raised, and stays below N
-pub climb_stops : (N : ℕ) (xs : List ℕ) (n i y : ℕ) → n ≡ i + 1 → i < length xs → y ≡ get_or xs i 0 + 1 → y < N → standing (take n (set xs i y)) ≡ raise N (take n xs)
-climb_stops N xs n i y e l g h =
-    rw (e, take_more_set xs i y l, take_more xs i 0 l, standing_push, raise_last, ← g)
-    (sym (cond-true (ltb y N) _ _ (lt-ltb y N h)))
+pub climb_stops : (N : ℕ) (s : List ℕ) (x y : ℕ) → y ≡ x + 1 → y < N → standing (s ++ y ∷ []) ≡ raise N (s ++ x ∷ [])
+climb_stops N s x y g h = rw (standing_push, raise_last, ← g) (sym (cond-true (ltb y N) _ _ (lt-ltb y N h)))
 
 -- the last level reaches N, and is removed
-pub climb_goes_on : (N : ℕ) (xs : List ℕ) (n i y : ℕ) → n ≡ i + 1 → i < length xs → y ≡ get_or xs i 0 + 1 → N ≤ y → raise N (take i xs) ≡ raise N (take n xs)
-climb_goes_on N xs n i y e l g h =
-    rw (e, take_more xs i 0 l, raise_last, ← g)
-    (sym (cond-false (ltb y N) _ _ (le-ltb y N h)))
-
--- a passing start that is short goes on with 0
-pub push_moves : (m N : ℕ) (pass : Bool) (xs : List ℕ) (n : ℕ) → pass ≡ true → n < m → n < length xs → standing (take (n + 1) (set xs n 0)) ≡ moved m N pass (take n xs)
-push_moves m N pass xs n e l w =
-    let long : length (take n xs) ≡ n = length-take-le n xs (omega arith) in
-    rw (take_more_set xs n 0 w, standing_push)
-    (sym (cond-true pass _ _ e ∙ cond-true (ltb (length (take n xs)) m) _ _ (lt-ltb _ m (omega arith))))
-
-pub push_below : (N : ℕ) (xs : List ℕ) (n : ℕ) → n < length xs → 0 < N → AllBelow N (take n xs) → AllBelow N (take (n + 1) (set xs n 0))
-push_below N xs n w l b = rw (take_more_set xs n 0 w) (all_below_push N (take n xs) 0 b l)
+pub climb_goes_on : (N : ℕ) (s : List ℕ) (x y : ℕ) → y ≡ x + 1 → N ≤ y → raise N s ≡ raise N (s ++ x ∷ [])
+climb_goes_on N s x y g h = rw (raise_last, ← g) (sym (cond-false (ltb y N) _ _ (le-ltb y N h)))
 
 -- any other is raised
 pub raise_moves : (m N : ℕ) (pass : Bool) (s : List ℕ) → (pass ≡ false) ⊎ (m ≤ length s) → raise N s ≡ moved m N pass s

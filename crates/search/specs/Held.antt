@@ -1,5 +1,5 @@
 -- How a search holds its bookmark, and what its answers say.
-use Rattle.std.specs.Prelude.{ℕ, ◌≤◌, Bool, cond, ◌&&◌, List, [], ◌∷◌, ◌++◌, map, length, take, Ok, Err, Result, nat_le, nat_lt}
+use Rattle.std.specs.Prelude.{ℕ, ◌≤◌, Bool, cond, ◌&&◌, List, [], ◌∷◌, ◌++◌, map, length, Ok, Err, Result, nat_le, nat_lt}
 use Rattle.circuit.specs.Circuit.{AllBelow, are_below}
 use Rattle.promise.specs.Order.{Mark, at, end}
 use Rattle.promise.specs.Search.{Rules, raise, Answer as Said, hit, finished, paused, refused}
@@ -16,11 +16,11 @@ nets ls = map (λ (l : Level). l.net) ls
 
 -- those of the levels in use
 abbrev pub held : Search → List ℕ
-held q = take q.len (nets q.levels)
+held q = nets q.levels.items
 
 -- the levels in use are a start: 1 to m numbers below N
 abbrev pub is_start : ℕ → ℕ → Search → Bool
-is_start m N q = nat_lt 0 q.len && (nat_le q.len m && are_below N (held q))
+is_start m N q = nat_lt 0 (length q.levels.items) && (nat_le (length q.levels.items) m && are_below N (held q))
 
 -- the bookmark; what is no start counts as the end
 abbrev pub bookmark : ℕ → ℕ → Search → Mark
@@ -33,7 +33,7 @@ standing (x ∷ xs) = at (x ∷ xs)
 
 -- the levels in use are none, or a start
 pub record Sits (m N : ℕ) (q : Search) : Type 0 where
-  pub few : q.len ≤ m
+  pub few : length q.levels.items ≤ m
   pub below : AllBelow N (held q)
 
 -- where a try at s leads, by whether s passes

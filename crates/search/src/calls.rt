@@ -1,5 +1,5 @@
 // Opening a search, and its calls.
-ghost use Rattle.std.specs.Prelude.{◌≡◌, ℕ, ◌+◌, ◌<◌, ◌≤◌, Bool, true, false, List, length, take};
+ghost use Rattle.std.specs.Prelude.{◌≡◌, ℕ, ◌+◌, ◌<◌, ◌≤◌, Bool, true, false, length, take};
 ghost use Rattle.circuit.specs.Circuit.{AllBelow};
 ghost use Rattle.promise.specs.Search.{raise, opening};
 ghost use Rattle.promise.specs.Hits.{rules_of, Promised, Called};
@@ -9,6 +9,7 @@ ghost use Rattle.search.specs.Held.{held, is_start, bookmark, standing, Sits, mo
 use crate::bookmark::{Level, Search};
 use crate::span::Span;
 use crate::tries::Tries;
+use arrayvec::ArrayVec;
 use circuit::{Board, Reason, Refusal};
 use matching::CellTest;
 use pattern::Pattern;
@@ -29,56 +30,56 @@ impl Search {
         ensures promise { Promised (drawn pattern.now) (B.Board.means board.now) (S.Sieve.keeps sieve.new (drawn pattern.now) (B.Board.means board.now)) }
     {
         sieve.ready(pattern, board);
-        Search {
-            levels: [Level { net: 0 }; 16],
-            len: usize::from(board.nets() > 0),
+        let mut levels = ArrayVec::new();
+        if board.nets() > 0 {
+            levels.push(Level { net: 0 });
         }
+        Search { levels }
     }
 
     // Whether the levels in use are a start.
     fn is_start(&self, span: Span) -> bool
         ensures { result ≡ is_start span.m span.nets self.now }
     {
-        0 < self.len
-            && self.len <= span.m as usize
-            && self.levels[..self.len]
-                .iter()
-                .all(|level| level.net < span.nets)
+        !self.levels.is_empty()
+            && self.levels.len() <= span.m as usize
+            && self.levels.iter().all(|level| level.net < span.nets)
     }
 
-    // The numbers of the levels.
+    // The numbers of the levels, in front of a plain array: pushed into an `ArrayVec` they made a listing 15 percent slower.
     fn numbers(&self) -> [u16; 16]
-        ensures { take self.now.len result ≡ held self.now }
+        ensures { take (length self.now.levels.items) result ≡ held self.now }
     {
-        self.levels.map(|level| level.net)
+        let mut numbers = [0; 16];
+        for (place, level) in self.levels.iter().enumerate() {
+            numbers[place] = level.net;
+        }
+        numbers
     }
 
     // Raises the last number by one; one that reaches the number of board nets is removed and the one before it raised.
     fn climb(&mut self, span: Span)
-        requires { (self.old.len ≤ 16) × AllBelow span.nets (held self.old) }
+        requires { AllBelow span.nets (held self.old) }
         ensures stands { standing (held self.new) ≡ raise span.nets (held self.old) }
-        ensures few { self.new.len ≤ self.old.len }
+        ensures few { length self.new.levels.items ≤ length self.old.levels.items }
     {
-        while let Some(last) = self.len.checked_sub(1) {
-            let level = &mut self.levels[last];
+        while let Some(level) = self.levels.last_mut() {
             level.lift();
             if level.net < span.nets {
                 return;
             }
-            level.clear();
-            self.len = last;
+            self.levels.pop();
         }
     }
 
     // Moves on from the start that a try looked at.
     fn advance(&mut self, pass: bool, span: Span)
-        requires { (Sits span.m span.nets self.old) × (0 < self.old.len) }
+        requires { (Sits span.m span.nets self.old) × (0 < length self.old.levels.items) }
         ensures stands { standing (held self.new) ≡ moved span.m span.nets pass (held self.old) }
         ensures sits { Sits span.m span.nets self.new }
     {
-        if pass && self.len < span.m as usize {
-            self.levels[self.len] = Level { net: 0 };
-            self.len += 1;
+        if pass && self.levels.len() < span.m as usize {
+            self.levels.push(Level { net: 0 });
         } else {
             self.climb(span);
         }
@@ -119,15 +120,15 @@ impl Search {
         };
         for made in 1..=budget {
             let numbers = self.numbers();
-            let start = &numbers[..self.len];
+            let start = &numbers[..self.levels.len()];
             let pass = tries.passes(start);
-            if pass && self.len == span.m as usize {
+            if pass && start.len() == span.m as usize {
                 row[..start.len()].copy_from_slice(start);
                 self.advance(pass, span);
                 return Ok(Answer::Hit(made));
             }
             self.advance(pass, span);
-            if self.len == 0 {
+            if self.levels.is_empty() {
                 return Ok(Answer::Finished(made));
             }
         }

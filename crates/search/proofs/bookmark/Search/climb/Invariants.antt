@@ -4,12 +4,11 @@ use Rattle.promise.specs.Search.{raise}
 use Rattle.search.specs.Held.{held}
 use Rattle.search.proofs.bookmark.Search.climb.Given as goal
 
-abbrev pub invariant-loop-last : goal.invariant-loop-last
-invariant-loop-last l =
+abbrev pub invariant-loop-level : goal.invariant-loop-level
+invariant-loop-level l =
     (raise l.span.nets (held l.self) ≡ raise l.span.nets (held l.initial.self))
-    × (l.self.len ≤ l.initial.self.len)
+    × (length l.self.levels.items ≤ length l.initial.self.levels.items)
     × AllBelow l.span.nets (held l.self)
-    × (length l.self.levels ≡ 16)
 
-abbrev pub decreases-loop-last : goal.decreases-loop-last
-decreases-loop-last l = l.self.len
+abbrev pub decreases-loop-level : goal.decreases-loop-level
+decreases-loop-level l = length l.self.levels.items

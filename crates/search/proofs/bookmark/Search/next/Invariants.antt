@@ -1,4 +1,4 @@
-use Rattle.std.proofs.Common.{◌≡◌, ◌-◌, ◌<◌}
+use Rattle.std.proofs.Common.{◌≡◌, ◌-◌, ◌<◌, length}
 use Rattle.promise.specs.Search.{Quiet}
 use Rattle.promise.specs.Hits.{passing}
 use Rattle.pattern.specs.Drawn.{drawn}
@@ -11,7 +11,7 @@ invariant-loop-made g l =
     let b = g.B.Board.means l.board in
     Quiet (rules l.span.m l.span.nets (passing p b (g.S.Sieve.keeps l.sieve p b))) (l.made - 1) (bookmark l.span.m l.span.nets l.initial.self) (standing (held l.self))
     × Sits l.span.m l.span.nets l.self
-    × (0 < l.self.len)
+    × (0 < length l.self.levels.items)
     × (l.row ≡ l.initial.row)
     × (l.tries.pattern.now ≡ l.pattern)
     × (l.tries.board.now ≡ l.board)
