@@ -37,7 +37,5 @@ pub(super) fn cells_agree<P: Board, B: Board>(
         return false;
     }
     let pattern = Seen::under(p, order(start.len()));
-    let first = pattern.tally(pattern_room);
-    let second = board.tally(board_room);
-    agree(&pattern_room[..first], &board_room[..second])
+    agree(pattern.tally(pattern_room), board.tally(board_room))
 }

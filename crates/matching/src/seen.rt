@@ -54,8 +54,7 @@ impl<'a, C: Board> Seen<'a, C> {
         }
     }
 
-    // Whether the part is of the cell. The class comes first, and not `self.cell(v) == cell`: a mask asks each net of the
-    // start, and to make it of every part, of whatever class, made the part map sixty times slower.
+    // Whether the part is of the cell; the class is asked first, since to make a mask of every part was sixty times slower.
     pub(super) fn in_cell(&self, v: u16, cell: Cell) -> bool
         ensures { result ≡ in_cell (C.Board.means self.now.circuit.now) self.now.start.now cell.class cell.mask v }
     {
@@ -92,17 +91,17 @@ impl<'a, C: Board> Seen<'a, C> {
         }
     }
 
-    // Tallies the cells of the parts on the start's nets, and answers how many cells came.
-    pub(super) fn tally(&self, room: &mut [Entry<Cell>]) -> usize
+    // Tallies the cells of the parts on the start's nets in the room that is lent for it.
+    pub(super) fn tally<'r>(&self, room: &'r mut [Entry<Cell>]) -> &'r [Entry<Cell>]
         requires room { sizes (C.Board.means self.now.circuit.now) self.now.start.now (length self.now.start.now) ≤ length room.old }
         requires low { sizes (C.Board.means self.now.circuit.now) self.now.start.now (length self.now.start.now) < 65535 }
-        ensures within { result ≤ length room.new }
-        ensures after { take result room.new ≡ tallied by_cell (keys (C.Board.means self.now.circuit.now) self.now.start.now (length self.now.start.now)) }
+        ensures { result.now ≡ tallied by_cell (keys (C.Board.means self.now.circuit.now) self.now.start.now (length self.now.start.now)) }
     {
         let mut tally = Tally::over(room);
         for (i, f) in self.start.iter().enumerate() {
             self.add_net(i, *f, &mut tally);
         }
-        tally.len()
+        let len = tally.len();
+        &room[..len]
     }
 }

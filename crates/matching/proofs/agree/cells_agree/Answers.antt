@@ -27,15 +27,15 @@ returns-then-not-same_sizes g c =
 pub under-pattern-requires : goal.under-pattern-requires
 under-pattern-requires g c = omega (arith, ap length c.order.ensures, length_upto (length c.args.start.now), c.requires.short)
 
-pub tally-first-requires : goal.tally-first-requires
-tally-first-requires g c =
+pub tally-requires : goal.tally-requires
+tally-requires g c =
     let r = c.under-pattern.result in
     let few : length (g.P.Board.means r.circuit.now).classes ≤ 64 = omega (arith, c.requires.few, ap (λ (x : g.row.P.Denot). length (g.P.Board.means x).classes) c.under-pattern.ensures.circuit) in
     let f = sizes_few (g.P.Board.means r.circuit.now) (g.P.Board.sound r.circuit.now) r.start.now (length r.start.now) few in
     record { room = omega (arith, f, r.short, c.requires.pattern_room); low = omega (arith, f, r.short) }
 
-pub tally-second-requires : goal.tally-second-requires
-tally-second-requires g c =
+pub tally-requires-2 : goal.tally-requires-2
+tally-requires-2 g c =
     let p = g.P.Board.means c.args.p.now in
     let r = c.under-board.result in
     let k = length r.start.now in
@@ -52,7 +52,7 @@ returns g c =
     let q = c.under-pattern.ensures in
     let e = c.under-board.ensures in
     level_rule p b (g.P.Board.sound c.args.p.now) (g.B.Board.sound c.args.b.now) (length s) s refl _ _
-    (c.tally-first.ensures.after ∙ ap (λ (x : g.row.P.Denot). cells_of (g.P.Board.means x) c.under-pattern.result.start.now) q.circuit ∙ ap (cells_of p) (q.start ∙ c.order.ensures))
-    (c.tally-second.ensures.after ∙ ap (λ (x : g.row.B.Denot). cells_of (g.B.Board.means x) c.under-board.result.start.now) e.circuit ∙ ap (cells_of b) e.start)
+    (c.tally.ensures ∙ ap (λ (x : g.row.P.Denot). cells_of (g.P.Board.means x) c.under-pattern.result.start.now) q.circuit ∙ ap (cells_of p) (q.start ∙ c.order.ensures))
+    (c.tally-2.ensures ∙ ap (λ (x : g.row.B.Denot). cells_of (g.B.Board.means x) c.under-board.result.start.now) e.circuit ∙ ap (cells_of b) e.start)
     c.agree.result
     c.agree.ensures
