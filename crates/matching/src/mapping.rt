@@ -4,7 +4,6 @@ ghost use Rattle.circuit.specs.Circuit.{meets_cell_rule, are_distinct};
 ghost use Rattle.pattern.specs.Drawn.{drawn};
 ghost use Rattle.matching.specs.Mapped.{verdict, is_map, mapped};
 
-use super::agree::order;
 use super::answer::MapAnswer;
 use super::looks::{differ, first_past};
 use super::seen::Seen;
@@ -31,8 +30,8 @@ fn place_all<B: Board>(
     ensures lender { guard.new.bytes.ghost_name ≡ guard.old.bytes.ghost_name }
     ensures len { length guard.new.bytes.now ≡ length guard.old.bytes.now }
 {
-    let pattern = Seen::under(p, order(tuple.len()));
     let board = Seen::under(b, tuple);
+    let pattern = board.first_nets_of(p);
     for u in 0..p.parts() {
         let none_left = Refusal {
             reason: Reason::NoPartLeft,

@@ -1,6 +1,6 @@
 // A circuit under a start of its nets, and the cells of the parts on them.
 ghost use Rattle.std.specs.Prelude.{◌≡◌, ℕ, suc, ◌+◌, ◌<◌, ◌≤◌, ◌∷◌, length, take, Decides, slice_index};
-ghost use Rattle.circuit.specs.Circuit.{in_cell, mask};
+ghost use Rattle.circuit.specs.Circuit.{in_cell, mask, upto};
 ghost use Rattle.tally.specs.Tallies.{tallied};
 ghost use Rattle.matching.specs.Orders.{by_cell};
 ghost use Rattle.matching.specs.Keys.{SameSizes, cell_of, keys, sizes};
@@ -8,6 +8,9 @@ ghost use Rattle.matching.specs.Keys.{SameSizes, cell_of, keys, sizes};
 use super::cell::Cell;
 use circuit::{Board, class_of, part_of};
 use tally::{Entry, Tally};
+
+// A pattern's nets in their own order.
+static ORDER: [u16; 16] = [0, 1, 2, 3, 4, 5, 6, 7, 8, 9, 10, 11, 12, 13, 14, 15];
 
 // A circuit, and a start of at most sixteen of its nets.
 #[derive(Drop)]
@@ -24,6 +27,14 @@ impl<'a, C: Board> Seen<'a, C> {
         ensures start { result.start.now ≡ start.now }
     {
         Seen { circuit, start }
+    }
+
+    // A pattern under its first nets, as many as the start has.
+    pub(super) fn first_nets_of<'p, P: Board>(&self, pattern: &'p P) -> Seen<'p, P>
+        ensures circuit { result.circuit.now ≡ pattern.now }
+        ensures start { result.start.now ≡ upto (length self.now.start.now) }
+    {
+        Seen::under(pattern, &ORDER[..self.start.len()])
     }
 
     pub(super) fn parts(&self) -> u16
