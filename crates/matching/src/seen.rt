@@ -1,6 +1,7 @@
 // A circuit under a start of its nets, and the cells of the parts on them.
-ghost use Rattle.std.specs.Prelude.{◌≡◌, ℕ, suc, ◌+◌, ◌<◌, ◌≤◌, ◌∷◌, length, take, Decides, slice_index};
+ghost use Rattle.std.specs.Prelude.{◌≡◌, ℕ, suc, ◌+◌, ◌<◌, ◌≤◌, ◌∷◌, length, Decides, slice_index};
 ghost use Rattle.circuit.specs.Circuit.{in_cell, mask, upto};
+ghost use Rattle.tally.specs.InUse.{in_use};
 ghost use Rattle.tally.specs.Tallies.{tallied};
 ghost use Rattle.matching.specs.Orders.{by_cell};
 ghost use Rattle.matching.specs.Keys.{SameSizes, cell_of, keys, sizes};
@@ -86,10 +87,10 @@ impl<'a, C: Board> Seen<'a, C> {
     fn add_net(&self, i: usize, f: u16, tally: &mut Tally<'_, Cell>)
         requires there { i < length self.now.start.now }
         requires net { f ≡ slice_index self.now.start.now i }
-        requires before { take tally.old.len tally.old.entries.now ≡ tallied by_cell (keys (C.Board.means self.now.circuit.now) self.now.start.now i) }
+        requires before { in_use tally.old ≡ tallied by_cell (keys (C.Board.means self.now.circuit.now) self.now.start.now i) }
         requires room { sizes (C.Board.means self.now.circuit.now) self.now.start.now (suc i) ≤ length tally.old.entries.now }
         requires low { sizes (C.Board.means self.now.circuit.now) self.now.start.now (suc i) < 65535 }
-        ensures after { take tally.new.len tally.new.entries.now ≡ tallied by_cell (keys (C.Board.means self.now.circuit.now) self.now.start.now (suc i)) }
+        ensures after { in_use tally.new ≡ tallied by_cell (keys (C.Board.means self.now.circuit.now) self.now.start.now (suc i)) }
         ensures lender { tally.new.entries.ghost_name ≡ tally.old.entries.ghost_name }
         ensures room { length tally.new.entries.now ≡ length tally.old.entries.now }
     {
