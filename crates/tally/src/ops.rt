@@ -34,6 +34,7 @@ pub(super) fn insert<K: Copy>(entries: &mut [Entry<K>], len: usize, at: usize, n
 }
 
 // How often the key came.
+// A match: the proof of `map_or` did not close, since a caller is not told what its closure reads at an index.
 pub(super) fn count_in<K: Ord>(entries: &[Entry<K>], key: &K) -> u16
     ensures { result ≡ counted K.Ord.cmp entries.now key.now }
 {
