@@ -9,10 +9,12 @@ use tables::holds;
 pub fn differ(tuple: &[u16]) -> bool
     ensures { result ≡ are_distinct tuple.now }
 {
-    for (i, x) in tuple.iter().enumerate() {
-        if holds(&tuple[i + 1..], *x) {
+    let mut rest = tuple;
+    while let Some((first, behind)) = rest.split_first() {
+        if holds(behind, *first) {
             return false;
         }
+        rest = behind;
     }
     true
 }

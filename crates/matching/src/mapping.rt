@@ -1,10 +1,9 @@
 // The part map of a hit.
-ghost use Rattle.std.specs.Prelude.{◌≡◌, ℕ, ◌<◌, ◌≤◌, true, ◌&&◌, ◌++◌, length, drop, replicate, if◌then◌else◌, Ok, Err};
-ghost use Rattle.circuit.specs.Circuit.{meets_cell_rule, are_distinct};
+ghost use Rattle.std.specs.Prelude.{◌≡◌, ℕ, ◌<◌, ◌≤◌, true, ◌++◌, length, drop, replicate, if◌then◌else◌, Ok, Err};
+ghost use Rattle.circuit.specs.Circuit.{meets_cell_rule};
 ghost use Rattle.pattern.specs.Drawn.{drawn};
 ghost use Rattle.matching.specs.Mapped.{verdict, is_map, mapped};
 
-use super::agree::order;
 use super::answer::MapAnswer;
 use super::looks::{differ, first_past};
 use super::seen::Seen;
@@ -16,42 +15,31 @@ use pattern::Pattern;
 // Gives each pattern part in order the smallest untaken board part of its cell.
 fn place_all<B: Board>(
     p: &Pattern,
-    b: &B,
-    tuple: &[u16],
+    board: &Seen<'_, B>,
     out: &mut [u16],
     guard: &mut Taken<'_>,
 ) -> Result<(), Refusal>
-    requires long { length tuple.now ≡ length (drawn p.now).nets }
-    requires rule { meets_cell_rule (drawn p.now) (length (drawn p.now).nets) (B.Board.means b.now) tuple.now ≡ true }
+    requires long { length board.now.start.now ≡ length (drawn p.now).nets }
+    requires rule { meets_cell_rule (drawn p.now) (length (drawn p.now).nets) (B.Board.means board.now.circuit.now) board.now.start.now ≡ true }
     requires room { length (drawn p.now).classes ≤ length out.old }
-    requires bytes { length (B.Board.means b.now).classes ≤ length guard.old.bytes.now }
+    requires bytes { length (B.Board.means board.now.circuit.now).classes ≤ length guard.old.bytes.now }
     requires untaken { guard.old.bytes.now ≡ replicate (length guard.old.bytes.now) 0 }
     ensures answer { result ≡ Ok tt }
-    ensures out { out.new ≡ mapped (drawn p.now) (B.Board.means b.now) tuple.now ++ drop (length (drawn p.now).classes) out.old }
+    ensures out { out.new ≡ mapped (drawn p.now) (B.Board.means board.now.circuit.now) board.now.start.now ++ drop (length (drawn p.now).classes) out.old }
     ensures lender { guard.new.bytes.ghost_name ≡ guard.old.bytes.ghost_name }
     ensures len { length guard.new.bytes.now ≡ length guard.old.bytes.now }
 {
-    let pattern = Seen::under(p, order(tuple.len()));
-    let board = Seen::under(b, tuple);
+    let pattern = board.first_nets_of(p);
     for u in 0..p.parts() {
         let none_left = Refusal {
             reason: Reason::NoPartLeft,
             place: u as usize,
         };
-        let v = guard.first_free(&board, pattern.cell(u)).ok_or(none_left)?;
+        let v = guard.first_free(board, pattern.cell(u)).ok_or(none_left)?;
         guard.mark(v as usize);
         out[u as usize] = v;
     }
     Ok(())
-}
-
-// Whether the tuple's nets differ and the cell rule holds.
-fn fits<B: Board>(p: &Pattern, b: &B, tuple: &[u16]) -> bool
-    requires { length tuple.now ≡ length (drawn p.now).nets }
-    ensures { result ≡ (are_distinct tuple.now && meets_cell_rule (drawn p.now) (length (drawn p.now).nets) (B.Board.means b.now) tuple.now) }
-{
-    let mut cells = CellTest::new();
-    differ(tuple) && cells.holds(p, b, tuple)
 }
 
 // The part map of a tuple that is a hit; the taken-table ends all zeros on every way out.
@@ -91,9 +79,9 @@ pub fn map<B: Board>(
             place: 0,
         });
     }
-    if !fits(p, b, tuple) {
+    if !differ(tuple) || !CellTest::new().holds(p, b, tuple) {
         return Ok(MapAnswer::NoHit);
     }
-    place_all(p, b, tuple, out, &mut guard)?;
+    place_all(p, &Seen::under(b, tuple), out, &mut guard)?;
     Ok(MapAnswer::Map)
 }

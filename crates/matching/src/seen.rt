@@ -1,6 +1,7 @@
 // A circuit under a start of its nets, and the cells of the parts on them.
-ghost use Rattle.std.specs.Prelude.{◌≡◌, ℕ, suc, ◌+◌, ◌<◌, ◌≤◌, ◌∷◌, length, take, Decides, slice_index};
-ghost use Rattle.circuit.specs.Circuit.{in_cell, mask};
+ghost use Rattle.std.specs.Prelude.{◌≡◌, ℕ, suc, ◌+◌, ◌<◌, ◌≤◌, ◌∷◌, length, Decides, slice_index};
+ghost use Rattle.circuit.specs.Circuit.{in_cell, mask, upto};
+ghost use Rattle.tally.specs.InUse.{in_use};
 ghost use Rattle.tally.specs.Tallies.{tallied};
 ghost use Rattle.matching.specs.Orders.{by_cell};
 ghost use Rattle.matching.specs.Keys.{SameSizes, cell_of, keys, sizes};
@@ -8,6 +9,9 @@ ghost use Rattle.matching.specs.Keys.{SameSizes, cell_of, keys, sizes};
 use super::cell::Cell;
 use circuit::{Board, class_of, part_of};
 use tally::{Entry, Tally};
+
+// A pattern's nets in their own order.
+static ORDER: [u16; 16] = [0, 1, 2, 3, 4, 5, 6, 7, 8, 9, 10, 11, 12, 13, 14, 15];
 
 // A circuit, and a start of at most sixteen of its nets.
 #[derive(Drop)]
@@ -24,6 +28,14 @@ impl<'a, C: Board> Seen<'a, C> {
         ensures start { result.start.now ≡ start.now }
     {
         Seen { circuit, start }
+    }
+
+    // A pattern under its first nets, as many as the start has.
+    pub(super) fn first_nets_of<'p, P: Board>(&self, pattern: &'p P) -> Seen<'p, P>
+        ensures circuit { result.circuit.now ≡ pattern.now }
+        ensures start { result.start.now ≡ upto (length self.now.start.now) }
+    {
+        Seen::under(pattern, &ORDER[..self.start.len()])
     }
 
     pub(super) fn parts(&self) -> u16
@@ -54,8 +66,7 @@ impl<'a, C: Board> Seen<'a, C> {
         }
     }
 
-    // Whether the part is of the cell. The class comes first, and not `self.cell(v) == cell`: a mask asks each net of the
-    // start, and to make it of every part, of whatever class, made the part map sixty times slower.
+    // Whether the part is of the cell; the class is asked first, since to make a mask of every part was sixty times slower.
     pub(super) fn in_cell(&self, v: u16, cell: Cell) -> bool
         ensures { result ≡ in_cell (C.Board.means self.now.circuit.now) self.now.start.now cell.class cell.mask v }
     {
@@ -76,10 +87,10 @@ impl<'a, C: Board> Seen<'a, C> {
     fn add_net(&self, i: usize, f: u16, tally: &mut Tally<'_, Cell>)
         requires there { i < length self.now.start.now }
         requires net { f ≡ slice_index self.now.start.now i }
-        requires before { take tally.old.len tally.old.entries.now ≡ tallied by_cell (keys (C.Board.means self.now.circuit.now) self.now.start.now i) }
+        requires before { in_use tally.old ≡ tallied by_cell (keys (C.Board.means self.now.circuit.now) self.now.start.now i) }
         requires room { sizes (C.Board.means self.now.circuit.now) self.now.start.now (suc i) ≤ length tally.old.entries.now }
         requires low { sizes (C.Board.means self.now.circuit.now) self.now.start.now (suc i) < 65535 }
-        ensures after { take tally.new.len tally.new.entries.now ≡ tallied by_cell (keys (C.Board.means self.now.circuit.now) self.now.start.now (suc i)) }
+        ensures after { in_use tally.new ≡ tallied by_cell (keys (C.Board.means self.now.circuit.now) self.now.start.now (suc i)) }
         ensures lender { tally.new.entries.ghost_name ≡ tally.old.entries.ghost_name }
         ensures room { length tally.new.entries.now ≡ length tally.old.entries.now }
     {
@@ -92,17 +103,17 @@ impl<'a, C: Board> Seen<'a, C> {
         }
     }
 
-    // Tallies the cells of the parts on the start's nets, and answers how many cells came.
-    pub(super) fn tally(&self, room: &mut [Entry<Cell>]) -> usize
+    // Tallies the cells of the parts on the start's nets in the room that is lent for it.
+    pub(super) fn tally<'r>(&self, room: &'r mut [Entry<Cell>]) -> &'r [Entry<Cell>]
         requires room { sizes (C.Board.means self.now.circuit.now) self.now.start.now (length self.now.start.now) ≤ length room.old }
         requires low { sizes (C.Board.means self.now.circuit.now) self.now.start.now (length self.now.start.now) < 65535 }
-        ensures within { result ≤ length room.new }
-        ensures after { take result room.new ≡ tallied by_cell (keys (C.Board.means self.now.circuit.now) self.now.start.now (length self.now.start.now)) }
+        ensures { result.now ≡ tallied by_cell (keys (C.Board.means self.now.circuit.now) self.now.start.now (length self.now.start.now)) }
     {
         let mut tally = Tally::over(room);
         for (i, f) in self.start.iter().enumerate() {
             self.add_net(i, *f, &mut tally);
         }
-        tally.len()
+        let len = tally.len();
+        &room[..len]
     }
 }

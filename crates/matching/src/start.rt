@@ -5,6 +5,7 @@ ghost use Rattle.pattern.specs.Drawn.{drawn};
 
 use super::agree::cells_agree;
 use super::cell::Cell;
+use super::seen::Seen;
 use circuit::Board;
 use pattern::Pattern;
 use tally::Entry;
@@ -37,6 +38,7 @@ impl CellTest {
         if start.len() > p.net_count() as usize {
             return false;
         }
-        cells_agree(p, b, start, &mut self.pattern_room, &mut self.board_room)
+        let board = Seen::under(b, start);
+        cells_agree(p, &board, &mut self.pattern_room, &mut self.board_room)
     }
 }

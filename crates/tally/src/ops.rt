@@ -7,8 +7,9 @@ ghost use Rattle.tally.specs.Tallies.{found, within, counted};
 use super::entry::Entry;
 use std::cmp::Ordering;
 
-// The place of the key, or the place where it would go.
-// Not a binary search: `agree` counts in any entries, ascending or not, and a table is short.
+// The place of the key, or the place where it would go: that of the first key that is not less.
+// No binary search, since `agree` asks it of any entries, ascending or not; a loop, since the comparison that stops it
+// also tells which of the two the place is.
 pub(super) fn find<K: Ord>(entries: &[Entry<K>], key: &K) -> Result<usize, usize>
     ensures value { result ≡ found K.Ord.cmp entries.now key.now }
     ensures bound { within result (length entries.now) }
@@ -33,6 +34,7 @@ pub(super) fn insert<K: Copy>(entries: &mut [Entry<K>], len: usize, at: usize, n
 }
 
 // How often the key came.
+// A match: the proof of `map_or` did not close, since a caller is not told what its closure reads at an index.
 pub(super) fn count_in<K: Ord>(entries: &[Entry<K>], key: &K) -> u16
     ensures { result ≡ counted K.Ord.cmp entries.now key.now }
 {

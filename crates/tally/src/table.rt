@@ -1,4 +1,4 @@
-ghost use Rattle.std.specs.Prelude.{◌≡◌, ℕ, ◌+◌, ◌-◌, ◌<◌, ◌≤◌, length, take, is_ok, if◌then◌else◌};
+ghost use Rattle.std.specs.Prelude.{◌≡◌, ℕ, ◌+◌, ◌-◌, ◌<◌, ◌≤◌, length, is_ok, if◌then◌else◌};
 ghost use Rattle.tally.specs.Tallies.{counted, added, answer};
 
 use super::entry::Entry;
@@ -15,6 +15,8 @@ pub struct Tally<'a, K> {
 }
 
 impl<'a, K: Ord + Copy> Tally<'a, K> {
+    ghost use Rattle.tally.specs.InUse.{in_use};
+
     // An empty tally over a table.
     pub fn over(entries: &'a mut [Entry<K>]) -> Tally<'a, K>
         ensures none { result.len ≡ 0 }
@@ -33,22 +35,22 @@ impl<'a, K: Ord + Copy> Tally<'a, K> {
 
     // The entries in use.
     fn used(&self) -> &[Entry<K>]
-        ensures { result.now ≡ take self.now.len self.now.entries.now }
+        ensures { result.now ≡ in_use self.now }
     {
         &self.entries[..self.len]
     }
 
     // How often the key came; an absent key came 0 times.
     pub fn count(&self, key: &K) -> u16
-        ensures { result ≡ counted K.Ord.cmp (take self.now.len self.now.entries.now) key.now }
+        ensures { result ≡ counted K.Ord.cmp (in_use self.now) key.now }
     {
         count_in(self.used(), key)
     }
 
     // The key came once more.
     pub fn add(&mut self, key: K) -> Result<(), Refusal>
-        ensures answer { result ≡ answer K.Ord.cmp (take self.old.len self.old.entries.now) key (length self.old.entries.now) }
-        ensures after { take self.new.len self.new.entries.now ≡ (if is_ok result then added K.Ord.cmp (take self.old.len self.old.entries.now) key else take self.old.len self.old.entries.now) }
+        ensures answer { result ≡ answer K.Ord.cmp (in_use self.old) key (length self.old.entries.now) }
+        ensures after { in_use self.new ≡ (if is_ok result then added K.Ord.cmp (in_use self.old) key else in_use self.old) }
         ensures lender { self.new.entries.ghost_name ≡ self.old.entries.ghost_name }
         ensures room { length self.new.entries.now ≡ length self.old.entries.now }
     {
@@ -77,7 +79,7 @@ impl<'a, K: Ord + Copy> Tally<'a, K> {
 
     // The key came once more, if there is room for that; without room nothing changes.
     pub fn put(&mut self, key: K)
-        ensures after { take self.new.len self.new.entries.now ≡ (if is_ok (answer K.Ord.cmp (take self.old.len self.old.entries.now) key (length self.old.entries.now)) then added K.Ord.cmp (take self.old.len self.old.entries.now) key else take self.old.len self.old.entries.now) }
+        ensures after { in_use self.new ≡ (if is_ok (answer K.Ord.cmp (in_use self.old) key (length self.old.entries.now)) then added K.Ord.cmp (in_use self.old) key else in_use self.old) }
         ensures lender { self.new.entries.ghost_name ≡ self.old.entries.ghost_name }
         ensures room { length self.new.entries.now ≡ length self.old.entries.now }
     {

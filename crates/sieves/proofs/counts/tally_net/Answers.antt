@@ -1,5 +1,6 @@
 use Rattle.std.proofs.Common.{◌≡◌, ℕ, ◌<◌, [], ◌∷◌, ◌++◌, map, length, get_or, take, sym, ap, ◌∙◌, arith}
 use Rattle.circuit.specs.Circuit.{net, class}
+use Rattle.tally.specs.InUse.{in_use}
 use Rattle.tally.specs.Tallies.{tallied}
 use Rattle.tally.proofs.Counts.{put_more}
 use Rattle.sieves.proofs.Tallied.{so_far_more, so_far_room}
@@ -13,7 +14,7 @@ loop-k-preserved g c =
     let k = c.loop-k.k in
     let inv = c.loop-k.invariant in
     let p = c.put.ensures in
-    let es = take c.loop-k.tally.len c.loop-k.tally.entries.now in
+    let es = in_use c.loop-k.tally in
     let room = length c.loop-k.tally.entries.now in
     let h : k < length (net m f) = omega arith in
     let cls : c.class_of.result ≡ class m (get_or (net m f) k 0) = c.class_of.ensures ∙ ap (class m) c.part_of.ensures in

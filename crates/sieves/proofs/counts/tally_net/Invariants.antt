@@ -1,5 +1,6 @@
 use Rattle.std.proofs.Common.{◌≡◌, map, length, take}
 use Rattle.circuit.specs.Circuit.{net, class}
+use Rattle.tally.specs.InUse.{in_use}
 use Rattle.tally.specs.Tallies.{tallied}
 use Rattle.sieves.proofs.counts.tally_net.Given as goal
 use Rattle.std.specs.Ordering.{nat_cmp}
@@ -9,4 +10,4 @@ invariant-loop-k g l =
     let c = g.C.Board.means l.c in
     (l.tally.entries.ghost_name ≡ l.initial.tally.entries.ghost_name)
     × (length l.tally.entries.now ≡ length l.initial.tally.entries.now)
-    × (take l.tally.len l.tally.entries.now ≡ tallied nat_cmp (map (class c) (take l.k (net c l.f))))
+    × (in_use l.tally ≡ tallied nat_cmp (map (class c) (take l.k (net c l.f))))

@@ -1,7 +1,8 @@
-use Rattle.std.proofs.Common.{◌≡◌, ℕ, ◌+◌, ◌<◌, [], ◌∷◌, ◌++◌, length, get_or, take, sym, ap, ◌∙◌, subst, arith}
+use Rattle.std.proofs.Common.{◌≡◌, ℕ, ◌+◌, ◌<◌, [], ◌∷◌, ◌++◌, length, get_or, sym, ap, ◌∙◌, subst, arith}
 use Rattle.circuit.specs.Circuit.{net, mask}
 use Rattle.tally.specs.declared.table.Tally.{Tally}
 use Rattle.matching.specs.declared.cell.Cell.{Cell}
+use Rattle.tally.specs.InUse.{in_use}
 use Rattle.tally.specs.Tallies.{tallied}
 use Rattle.tally.proofs.Counts.{put_more}
 use Rattle.matching.specs.Orders.{by_cell}
@@ -25,12 +26,12 @@ loop-k-preserved g c =
     let T : Tally Cell → Type 0 = λ t.
     (t.entries.ghost_name ≡ c.args.tally.now.entries.ghost_name)
     × (length t.entries.now ≡ length c.args.tally.now.entries.now)
-    × (take t.len t.entries.now ≡ tallied by_cell (so_far m s i (k + 1)))
+    × (in_use t ≡ tallied by_cell (so_far m s i (k + 1)))
     in
     elim c.if-cell-earlier-eq0.branch [
       | then-cell-earlier-eq0 w ↦
           let p = w.put.ensures in
-          let es = take c.loop-k.tally.len c.loop-k.tally.entries.now in
+          let es = in_use c.loop-k.tally in
           let room = length c.loop-k.tally.entries.now in
           let fits = far_room m s i k h room es cell inv.2 (omega (arith, c.requires.room, inv.1)) c.requires.low in
           subst T (sym w.tally-is) (

@@ -1,4 +1,5 @@
-use Rattle.std.proofs.Common.{◌≡◌, length, take}
+use Rattle.std.proofs.Common.{◌≡◌, length}
+use Rattle.tally.specs.InUse.{in_use}
 use Rattle.tally.specs.Tallies.{tallied}
 use Rattle.matching.specs.Orders.{by_cell}
 use Rattle.matching.specs.Keys.{keys}
@@ -8,4 +9,4 @@ abbrev pub invariant-loop-i : goal.invariant-loop-i
 invariant-loop-i g l =
     (l.tally.entries.ghost_name ≡ l.initial.tally.entries.ghost_name)
     × (length l.tally.entries.now ≡ length l.initial.tally.entries.now)
-    × (take l.tally.len l.tally.entries.now ≡ tallied by_cell (keys (g.C.Board.means l.self.circuit.now) l.self.start.now l.i))
+    × (in_use l.tally ≡ tallied by_cell (keys (g.C.Board.means l.self.circuit.now) l.self.start.now l.i))
