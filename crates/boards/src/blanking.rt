@@ -32,7 +32,7 @@ impl<B: Board> Blanking<B> {
         self.marks.get(f as usize).copied().unwrap_or(false)
     }
 
-    // Sets or clears the net's mark, if the net is on the board.
+    // Sets or clears the net's mark, if the net is on the board. The same clauses stand at `blank` and `show`, since each is read by itself.
     fn mark(&mut self, f: u16, blanked: bool) -> Result<(), Refusal>
         ensures answer { result ≡ (if ltb f (length (B.Board.means self.old.board).nets) then Ok tt else Err (record { reason = NetOffBoard; place = f })) }
         ensures board { self.new.board ≡ self.old.board }

@@ -36,6 +36,7 @@ fn show_case(rt: &HostRuntime, case: &Case<Draft>, before: &Tables) -> anyhow::R
     let name = case.name;
     let tables = Tables::drawn(rt.alloc(), &case.tried)?;
     let mut pattern = Pattern::smallest();
+    // Good tables, so it is not refused; were it, the case would print ALTERED.
     let _ = pattern.make(before.lend());
     let checked = check(tables.lend());
     let made = pattern.make(tables.lend());

@@ -31,7 +31,7 @@ struct Case {
     text: &'static str,
 }
 
-// Sheets with one finding, and this one in the place of the file's own.
+// Sheets with one finding, and this one in the place of the file's own: the match picks a field and is no step.
 fn replaced(file: File, bytes: &[u8]) -> Sheets<'_> {
     let mut sheets = Sheets {
         pattern_parts: b"kind value\nR 1k\nR 1k\n",

@@ -60,6 +60,7 @@ impl<'a, L: Label> Sides<'a, L> {
         if let Some(place) = first_alike(self.pattern, own) {
             return place as u16;
         }
+        // The number after the last is what the class of a label on neither side is defined by; no label of a side comes to it.
         let place = first_alike(self.board, own).unwrap_or(self.board.len());
         (PATTERN_LABELS + place) as u16
     }
