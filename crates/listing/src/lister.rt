@@ -35,7 +35,7 @@ struct Lister<'a, B, S> {
 }
 
 impl<'a, B: Board, S: Sieve<B>> Lister<'a, B, S> {
-    // One call of next with the full budget; with that and a row of sixteen it never refuses.
+    // One call of next with the full budget; with that and a row of sixteen it never refuses. A match, since that is what is proved of the refusal.
     fn ask(&mut self, row: &mut [u16]) -> Answer
         requires { 16 ≤ length row.old }
         ensures asked { Asked (searched B.Board.means S.Sieve.keeps self.old) (mark_of B.Board.means self.old self.old.search) (said (Ok result)) (mark_of B.Board.means self.old self.new.search) row.new }

@@ -30,6 +30,7 @@ fn place_all<B: Board>(
     ensures len { length guard.new.bytes.now ≡ length guard.old.bytes.now }
 {
     let pattern = board.first_nets_of(p);
+    // A pattern answers part by part, so there is no slice of parts to go through.
     for u in 0..p.parts() {
         let none_left = Refusal {
             reason: Reason::NoPartLeft,
@@ -43,6 +44,7 @@ fn place_all<B: Board>(
 }
 
 // The part map of a tuple that is a hit; the taken-table ends all zeros on every way out.
+// Pattern, board and tuple are parameters here, since they are lent for the call; inside, board and tuple are one.
 pub fn map<B: Board>(
     p: &Pattern,
     b: &B,

@@ -44,7 +44,7 @@ impl<'a, C: Board> Seen<'a, C> {
         self.circuit.parts()
     }
 
-    // The nets of the start that have the part: bit i stands for the i-th.
+    // The nets of the start that have the part: bit i stands for the i-th, and is set by a shift.
     fn mask(&self, v: u16) -> u16
         ensures { result ≡ mask (C.Board.means self.now.circuit.now) self.now.start.now v }
     {
@@ -95,6 +95,7 @@ impl<'a, C: Board> Seen<'a, C> {
         ensures room { length tally.new.entries.now ≡ length tally.old.entries.now }
     {
         let earlier: u16 = (1 << i) - 1;
+        // A board answers part by part, so there is no slice of parts to go through.
         for k in 0..self.circuit.size(f) {
             let cell = self.cell(part_of(self.circuit, f, k));
             if cell.mask & earlier == 0 {

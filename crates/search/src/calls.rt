@@ -24,7 +24,7 @@ pub enum Answer {
 }
 
 impl Search {
-    // Opens a search: readies the sieve, and stands at (0), or at the end where the board has no nets.
+    // Opens a search: readies the sieve, and stands at (0), or at the end where the board has no nets. It keeps none of the three that it is lent.
     pub fn open<B: Board, S: Sieve<B>>(pattern: &Pattern, board: &B, sieve: &mut S) -> Search
         ensures stands { bookmark (length (drawn pattern.now).nets) (length (B.Board.means board.now).nets) result ≡ opening (rules_of (drawn pattern.now) (B.Board.means board.now) (S.Sieve.keeps sieve.new (drawn pattern.now) (B.Board.means board.now))) }
         ensures promise { Promised (drawn pattern.now) (B.Board.means board.now) (S.Sieve.keeps sieve.new (drawn pattern.now) (B.Board.means board.now)) }

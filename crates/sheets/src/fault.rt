@@ -50,6 +50,7 @@ impl From<Reason> for Layer {
 }
 
 // The line counts from 1, and is 0 for a fault of the whole sheet; the place is a field's first byte in its line.
+// The layer is told by the reason, and stands here for whoever reads a fault.
 #[derive(Clone, Copy, PartialEq, Eq, Debug)]
 pub struct Fault {
     pub file: File,

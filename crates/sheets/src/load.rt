@@ -26,6 +26,7 @@ pub fn load_rows<R: Row>(heap: Global, file: File, bytes: &[u8]) -> Result<Vec<R
         return Err(Fault::new(file, Reason::NamesLine, 1, 0).into());
     }
     let mut rows: Vec<R> = Vec::new(heap);
+    // Not a `for`: the reader is a cursor that a row is read out of at every step.
     while reader.step() {
         let line = rows.len() + 2;
         let fault = |bad: Refusal| Fault::new(file, bad.reason, line, bad.place);

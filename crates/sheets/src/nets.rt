@@ -29,7 +29,7 @@ fn rows_up_to(rows: &[Join], net: usize) -> usize
 }
 
 // Allocator and rows are parameters here and below, as in std: a struct of the two would only be taken apart again.
-// A net that the rows skip ends where the net before it ends.
+// A net that the rows skip ends where the net before it ends, so the loop counts nets and not rows.
 fn net_ends(heap: Global, rows: &[Join]) -> Result<Vec<u16>, AllocError>
     requires { length rows.now ≤ 16384 }
     ensures { IfOk result (λ v. v.items ≡ ends_of rows.now) }
