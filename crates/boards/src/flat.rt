@@ -1,5 +1,5 @@
 // A board held as three tables that someone else keeps.
-ghost use Rattle.std.specs.Prelude.{◌≡◌, ◌≤◌, [], length, if◌then◌else◌, MatchResult, nat_lt};
+ghost use Rattle.std.specs.Prelude.{◌≡◌, ◌<◌, ◌≤◌, [], length, if◌then◌else◌, MatchResult, nat_lt};
 ghost use Rattle.circuit.specs.Circuit.{net};
 ghost use Rattle.tables.specs.Tables.{start, Rises, Closes, Climbs, Below};
 ghost use Rattle.tables.specs.Drawn.{drawn_in};
@@ -60,6 +60,7 @@ impl<'a> FlatBoard<'a> {
     // The net's list; off the board the empty one, at 0.
     pub fn net(&self, f: u16) -> NetList<'a>
         ensures list { result.parts.now ≡ net (drawn_in self.now.tables) f }
+        ensures few { length result.parts.now < 65536 }
         ensures place { result.place ≡ (if nat_lt f (length self.now.tables.ends.now) then start self.now.tables.ends.now f else 0) }
     {
         self.tables.net(f)
@@ -87,7 +88,7 @@ impl<'a> Board for FlatBoard<'a> {
     }
 
     fn size(&self, f: u16) -> u16 {
-        self.net(f).size()
+        self.net(f).size() as u16
     }
 
     fn part(&self, f: u16, k: u16) -> Option<u16> {

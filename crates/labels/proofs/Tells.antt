@@ -18,7 +18,7 @@ module _ {L : Type 0} (proper : L → Bool) where
   Fits [] = Unit {0}
   Fits (x ∷ xs) = T (proper x) × Fits xs
 
-  fits_from : (xs : List L) → length xs ≤ unfit proper xs → Fits xs
+  pub fits_from : (xs : List L) → length xs ≤ unfit proper xs → Fits xs
   fits_from [] h = tt
   fits_from (x ∷ xs) h = go (proper x) h (fits_from xs)
     where
@@ -26,7 +26,7 @@ module _ {L : Type 0} (proper : L → Bool) where
       go true k rest = (tt, rest (omega arith))
       go false k rest = absurd (omega arith)
 
-  fit_in : (xs : List L) (x : L) → Fits xs → In x xs → T (proper x)
+  pub fit_in : (xs : List L) (x : L) → Fits xs → In x xs → T (proper x)
   fit_in [] x f h = absurd h
   fit_in (y ∷ ys) x f (inl e) = subst (λ z. T (proper z)) (sym e) f.0
   fit_in (y ∷ ys) x f (inr h) = fit_in ys x f.1 h
@@ -88,7 +88,7 @@ module _ {L : Type 0} (proper : L → Bool) (same : L → L → Bool)
         go false true p q k = let l = ltb-true _ _ q in absurd (omega arith)
         go false false p q k = meet x y px py (first_meets bs x y fb (omega arith) (on_board x px hx (ltb-false _ _ p)))
 
-    tells : Tells same ps bs
+    pub tells : Tells same ps bs
     tells x y hx hy =
         let px = fit_among x hx in
         let py = fit_among y hy in (

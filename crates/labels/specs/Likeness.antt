@@ -28,7 +28,7 @@ true_from true t = refl
 true_from false t = absurd t
 
 -- a finite number equals itself
-finite_itself : (x : Float) → T (float_is_finite x) → T (eq x x)
+pub finite_itself : (x : Float) → T (float_is_finite x) → T (eq x x)
 unfolding float_is_finite is_nan
 finite_itself nan h = absurd h
 finite_itself (inf s) h = absurd h

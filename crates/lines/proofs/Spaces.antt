@@ -7,7 +7,7 @@ use Rattle.sheets.specs.Faults.{fault_text}
 use Rattle.lines.specs.Written.{spaced, fault_line}
 
 -- every field but the first goes after a space
-spaced_push : (fs : List (List ℕ)) (g gap : List ℕ) (i : ℕ) → length fs ≡ i → gap ≡ cond (eqb i 0) [] (32 ∷ []) → spaced fs ++ (gap ++ g) ≡ spaced (fs ++ g ∷ [])
+pub spaced_push : (fs : List (List ℕ)) (g gap : List ℕ) (i : ℕ) → length fs ≡ i → gap ≡ cond (eqb i 0) [] (32 ∷ []) → spaced fs ++ (gap ++ g) ≡ spaced (fs ++ g ∷ [])
 spaced_push [] g gap i e h = ap (λ z. z ++ g) (h ∙ ap (λ b. cond b [] (32 ∷ [])) (eq-eqb i 0 (sym e))) ∙ sym (append-nil g)
 spaced_push (f ∷ fs) g gap i e h =
     let spaced_field : gap ++ g ≡ 32 ∷ g = ap (λ z. z ++ g) (h ∙ ap (λ b. cond b [] (32 ∷ [])) (ne_eqb i 0 (λ z. omega arith))) in

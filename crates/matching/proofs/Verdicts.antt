@@ -15,7 +15,7 @@ low_all n (x ∷ xs) h = go (leb n x) refl h (low_all n xs)
     go true e l rest = absurd (omega arith)
     go false e l rest = ap (λ (b : Bool). b && are_below n xs) (lt-ltb x n (leb-false n x e)) ∙ rest (omega arith)
 
-past_none : (n : ℕ) (t : List ℕ) → past n t ≡ None → are_below n t ≡ true
+pub past_none : (n : ℕ) (t : List ℕ) → past n t ≡ None → are_below n t ≡ true
 past_none n t e = low_all n t (ltb-false (position_or_len (leb n) t) (length t) (found_none (ltb (position_or_len (leb n) t) (length t)) (position_or_len (leb n) t) e))
   where
     found_none : (b : Bool) (i : ℕ) → cond b (Some i) None ≡ None → b ≡ false

@@ -97,9 +97,12 @@ impl<'a, C: Board> Seen<'a, C> {
         let earlier: u16 = (1 << i) - 1;
         // A board answers part by part, so there is no slice of parts to go through.
         for k in 0..self.circuit.size(f) {
-            let cell = self.cell(part_of(self.circuit, f, k));
-            if cell.mask & earlier == 0 {
-                tally.put(cell);
+            let v = part_of(self.circuit, f, k);
+            let mask = self.mask(v);
+            // Only a part that no earlier net has is asked for its class.
+            if mask & earlier == 0 {
+                let class = class_of(self.circuit, v);
+                tally.put(Cell { class, mask });
             }
         }
     }

@@ -17,7 +17,7 @@ levels_below N [] = refl
 levels_below N (l ∷ ls) = ap (λ (t : Bool). ltb l.net N && t) (levels_below N ls)
 
 -- the last of the levels in use, l, after the others
-split_last : (ls : List Level) (l : Level) → 0 < length ls → l ≡ get_or ls (length ls - 1) l → nets ls ≡ nets (take (length ls - 1) ls) ++ l.net ∷ []
+pub split_last : (ls : List Level) (l : Level) → 0 < length ls → l ≡ get_or ls (length ls - 1) l → nets ls ≡ nets (take (length ls - 1) ls) ++ l.net ∷ []
 split_last ls l some e =
     let i = length ls - 1 in
     sym (ap nets (take_all (i + 1) ls (omega arith)))

@@ -15,7 +15,7 @@ use Rattle.sheets.proofs.Only.{joins_only}
 -- ## The fronts
 
 -- a place in the front: what is left of the front begins there
-front_from : (f : ℕ) (rows : List Join) (i : ℕ) → i ≤ front f rows → front f rows ≡ i + front f (drop i rows)
+pub front_from : (f : ℕ) (rows : List Join) (i : ℕ) → i ≤ front f rows → front f rows ≡ i + front f (drop i rows)
 front_from f rows zero h = omega arith
 front_from f [] (suc i) h = absurd (omega arith)
 front_from f (r ∷ rs) (suc i) h = go (leb r.net f) h (front_from f rs i)

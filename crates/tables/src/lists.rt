@@ -17,8 +17,6 @@ pub struct Tables<'a> {
 pub struct NetList<'a> {
     pub place: usize,
     pub parts: &'a [u16],
-    // an end is a u16, and so is the size of a list that ends there
-    ghost few: { length parts.now < 65536 },
 }
 
 impl<'a> Tables<'a> {
@@ -32,6 +30,7 @@ impl<'a> Tables<'a> {
     // The list of net f, empty off the tables and where the ends do not fit the joins.
     pub fn net(self, f: u16) -> NetList<'a>
         ensures list { result.parts.now ≡ net (drawn_in self.entry) f }
+        ensures few { length result.parts.now < 65536 }
         ensures place { result.place ≡ (if nat_lt f (length self.entry.ends.now) then min (start self.entry.ends.now f) (min (slice_index self.entry.ends.now f) (length self.entry.joins.now)) else 0) }
     {
         net_list(self.ends, self.joins, f)
@@ -51,6 +50,7 @@ fn start_of(ends: &[u16], f: usize) -> usize
 // The same without classes, for whoever has none, and as long as the joins are lent.
 pub fn net_list<'a>(ends: &[u16], joins: &'a [u16], f: u16) -> NetList<'a>
     ensures list { (classes : List ℕ) → result.parts.now ≡ net (circuit_of classes ends.now joins.now) f }
+    ensures few { length result.parts.now < 65536 }
     ensures place { result.place ≡ (if nat_lt f (length ends.now) then min (start ends.now f) (min (slice_index ends.now f) (length joins.now)) else 0) }
 {
     let f = f as usize;
@@ -70,10 +70,10 @@ pub fn net_list<'a>(ends: &[u16], joins: &'a [u16], f: u16) -> NetList<'a>
 
 impl<'a> NetList<'a> {
     // How many parts the list has.
-    pub fn size(self) -> u16
+    pub fn size(self) -> usize
         ensures { result ≡ length self.entry.parts.now }
     {
-        self.parts.len() as u16
+        self.parts.len()
     }
 
     // The k-th part, absent from the list's size on.
@@ -90,8 +90,22 @@ impl<'a> NetList<'a> {
     }
 }
 
+// From so many parts on, `contains`, which looks at sixteen numbers at a time, takes less time than to look at one by one.
+const FEW_PARTS: usize = 8;
+
 // No binary search: tables that nobody has checked may have lists that do not ascend.
 pub fn holds(parts: &[u16], v: u16) -> bool
+    ensures { result ≡ member parts.now v }
+{
+    if parts.len() < FEW_PARTS {
+        return parts.iter().any(|part| *part == v);
+    }
+    holds_among_many(parts, v)
+}
+
+// Out of line, so that the look through a short list is small enough to stand where it is called.
+#[inline(never)]
+fn holds_among_many(parts: &[u16], v: u16) -> bool
     ensures { result ≡ member parts.now v }
 {
     parts.contains(&v)

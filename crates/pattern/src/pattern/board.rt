@@ -1,4 +1,4 @@
-ghost use Rattle.std.specs.Prelude.{◌≡◌, ◌≤◌, length};
+ghost use Rattle.std.specs.Prelude.{◌≡◌, ◌<◌, ◌≤◌, length};
 ghost use Rattle.circuit.specs.Circuit.{net};
 ghost use Rattle.tables.specs.Drawn.{drawn_in};
 ghost use Rattle.pattern.specs.Drawn.{drawn};
@@ -30,7 +30,8 @@ impl Pattern {
     }
 
     fn list(&self, f: u16) -> NetList<'_>
-        ensures { result.parts.now ≡ net (drawn self.now) f }
+        ensures list { result.parts.now ≡ net (drawn self.now) f }
+        ensures few { length result.parts.now < 65536 }
     {
         self.tables().net(f)
     }
@@ -56,7 +57,7 @@ impl Board for Pattern {
     }
 
     fn size(&self, f: u16) -> u16 {
-        self.list(f).size()
+        self.list(f).size() as u16
     }
 
     fn part(&self, f: u16, k: u16) -> Option<u16> {
