@@ -3,18 +3,17 @@ ghost use Rattle.std.specs.Prelude.{◌≡◌, ℕ, ◌<◌, ◌≤◌, length};
 ghost use Rattle.circuit.specs.Circuit.{are_distinct};
 ghost use Rattle.matching.specs.Mapped.{past};
 
-use tables::holds;
-
-// Whether no number comes twice.
+// Whether no number comes twice. From the last one on, since a try adds a number behind those that differ already;
+// one by one, since a tuple has at most sixteen numbers, and mostly two or three.
 pub fn differ(tuple: &[u16]) -> bool
     ensures { result ≡ are_distinct tuple.now }
 {
     let mut rest = tuple;
-    while let Some((first, behind)) = rest.split_first() {
-        if holds(behind, *first) {
+    while let Some((last, before)) = rest.split_last() {
+        if before.iter().any(|number| *number == *last) {
             return false;
         }
-        rest = behind;
+        rest = before;
     }
     true
 }
