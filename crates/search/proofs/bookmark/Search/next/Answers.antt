@@ -1,12 +1,13 @@
 -- A call of next does what `Next` says.
 use Rattle.std.proofs.Common.{◌≡◌, ◌+◌, ◌-◌, ◌<◌, false, ◌⊎◌, length, take, sym, refl, ap, ◌∙◌, subst, inl, inr, add-one, arith, rules}
+use Rattle.std.proofs.lemmas.List.{length-set}
 use Rattle.promise.specs.Search.{Quiet, InRange}
 use Rattle.promise.specs.Hits.{passing}
 use Rattle.pattern.specs.Drawn.{drawn}
 use Rattle.pattern.specs.Kept.{drawn_sound, nets_some}
 use Rattle.search.specs.Held.{held, standing, bookmark, rules as sought}
 use Rattle.promise.proofs.Lawful.{called}
-use Rattle.search.proofs.Raised.{raise_moves}
+use Rattle.search.proofs.Raised.{raise_moves, renewed}
 use Rattle.search.proofs.Stands.{held_long, standing_some, standing_none, start_sits, sits_bookmark, one_more, at_no_end, not_found, called_at, no_start}
 use Rattle.search.proofs.bookmark.Search.next.Given.{Over}
 use Rattle.search.proofs.bookmark.Search.next.Goals as goal
@@ -21,7 +22,7 @@ passed : (g : Over) (c : After-passes-pass g) → let p = drawn c.args.pattern.n
     c.passes-pass.result ≡ passing p b (g.S.Sieve.keeps c.args.sieve.now p b) (held c.loop-made.self)
 passed g c =
     let value = c.passes-pass.ensures.value in
-    let held-is = ap (λ n. take n c.numbers-numbers.result) c.len.ensures.value ∙ c.numbers-numbers.ensures in
+    let held-is = ap (λ n. take n c.loop-made.numbers) c.len.ensures.value ∙ c.loop-made.invariant.7 in
     let pattern = c.loop-made.invariant.4 in
     let board = c.loop-made.invariant.5 in
     let sieve = c.loop-made.invariant.6 in
@@ -42,7 +43,7 @@ tried g c pass-is =
     let k = bookmark m n c.args.self.now in
     let pass = c.passes-pass.result in
     let long = held_long q in
-    let shown = ap (λ n. take n c.numbers-numbers.result) c.len.ensures.value ∙ c.numbers-numbers.ensures in
+    let shown = ap (λ n. take n c.loop-made.numbers) c.len.ensures.value ∙ c.loop-made.invariant.7 in
     let once : c.loop-made.made - 1 + 1 ≡ c.loop-made.made = omega arith in
     let why : (pass ≡ false) ⊎ (length (held q) ≡ m → ⊥) =
     elim c.else-pass.branch
@@ -55,7 +56,7 @@ pub loop-made-init : goal.loop-made-init
 loop-made-init g c =
     let q = c.args.self.now in
     let w = start_sits c.of-span.result.m c.of-span.result.nets q (sym c.if-not-is_start.ensures) in
-    (sits_bookmark c.of-span.result.m c.of-span.result.nets q w.0, w.0, w.1, refl, refl, refl, refl)
+    (sits_bookmark c.of-span.result.m c.of-span.result.nets q w.0, w.0, w.1, refl, refl, refl, refl, c.numbers-numbers.ensures, search rules)
 
 pub returns-then-start-span : goal.returns-then-start-span
 returns-then-start-span g c =
@@ -68,7 +69,7 @@ returns-then-start-span g c =
     let q' = c.advance.new.self in
     let inv = c.loop-made.invariant in
     let long = held_long q in
-    let shown = ap (λ n. take n c.numbers-numbers.result) c.len.ensures.value ∙ c.numbers-numbers.ensures in
+    let shown = ap (λ n. take n c.loop-made.numbers) c.len.ensures.value ∙ c.loop-made.invariant.7 in
     let is_m : length (held q) ≡ m = sym (ap length shown) ∙ c.if-start-span.true in
     let once : c.loop-made.made ≡ c.loop-made.made - 1 + 1 = omega arith in
     called_at p b (drawn_sound c.args.pattern.now) (g.B.Board.sound c.args.board.now) keeps m n c.of-span.ensures.m c.of-span.ensures.nets (omega arith)
@@ -87,8 +88,8 @@ returns-then-start-span g c =
       ),
     )
 
-pub returns-then-is_empty : goal.returns-then-is_empty
-returns-then-is_empty g c =
+pub returns-in_default : goal.returns-in_default
+returns-in_default g c =
     let p = drawn c.args.pattern.now in
     let b = g.B.Board.means c.args.board.now in
     let keeps = g.S.Sieve.keeps c.args.sieve.now p b in
@@ -98,10 +99,10 @@ returns-then-is_empty g c =
     let none : standing (held q') ≡ _ = standing_none q' (search rules) in
     called_at p b (drawn_sound c.args.pattern.now) (g.B.Board.sound c.args.board.now) keeps m n c.of-span.ensures.m c.of-span.ensures.nets (omega arith)
     c.args.self.now _ _ _ q' _ (
-      in_range g (goal.at.returns-then-is_empty g c).After-of-span,
+      in_range g (goal.at.returns-in_default g c).After-of-span,
       omega arith,
       omega arith,
-      subst (Quiet (sought m n (passing p b keeps)) c.loop-made.made (bookmark m n c.args.self.now)) none (tried g (goal.at.returns-then-is_empty g c).After-advance-in-loop-made (passed g (goal.at.returns-then-is_empty g c).After-passes-pass)),
+      subst (Quiet (sought m n (passing p b keeps)) c.loop-made.made (bookmark m n c.args.self.now)) none (tried g (goal.at.returns-in_default g c).After-advance-in-loop-made (passed g (goal.at.returns-in_default g c).After-passes-pass)),
       sits_bookmark m n q' c.advance-in-loop-made.ensures.sits ∙ none,
       c.loop-made.invariant.3,
     )
@@ -114,6 +115,8 @@ loop-made-preserved g c =
     let n = c.of-span.result.nets in
     let inv = c.loop-made.invariant in
     let same = c.passes-pass.ensures in
+    let us = c.advance-in-loop-made.new.self.levels.items in
+    let l = c.in-Some.level.now in
     let once : c.loop-made.made ≡ c.loop-made.made + 1 - 1 = omega arith in (
       subst (λ i. Quiet (sought m n (passing p b (g.S.Sieve.keeps c.args.sieve.now p b))) i (bookmark m n c.args.self.now) (standing (held c.advance-in-loop-made.new.self))) once
           (tried g (goal.at.loop-made-preserved g c).After-advance-in-loop-made (passed g (goal.at.loop-made-preserved g c).After-passes-pass)),
@@ -123,10 +126,12 @@ loop-made-preserved g c =
       ap (λ r. r.now) same.pattern ∙ inv.4,
       ap (λ r. r.now) same.board ∙ inv.5,
       ap (λ r. r.now) same.sieve ∙ inv.6,
+      renewed m n c.passes-pass.result c.loop-made.self.levels.items us l c.loop-made.numbers _ (search rules) (search rules) inv.7 c.advance-in-loop-made.ensures.stands (search rules),
+      length-set c.loop-made.numbers _ l.net ∙ inv.8,
     )
 
-pub returns-else-is_empty : goal.returns-else-is_empty
-returns-else-is_empty g c =
+pub returns-in-Some : goal.returns-in-Some
+returns-in-Some g c =
     let p = drawn c.args.pattern.now in
     let b = g.B.Board.means c.args.board.now in
     let keeps = g.S.Sieve.keeps c.args.sieve.now p b in
@@ -141,10 +146,10 @@ returns-else-is_empty g c =
     let some : 0 < length q'.levels.items = search rules in
     called_at p b (drawn_sound c.args.pattern.now) (g.B.Board.sound c.args.board.now) keeps m n c.of-span.ensures.m c.of-span.ensures.nets (omega arith)
     c.args.self.now _ _ _ q' _ (
-      in_range g (goal.at.returns-else-is_empty g c).After-of-span,
+      in_range g (goal.at.returns-in-Some g c).After-of-span,
       omega arith,
       refl,
-      subst (λ i. Quiet (sought m n (passing p b keeps)) i k (bookmark m n q')) spent (subst (Quiet (sought m n (passing p b keeps)) c.loop-made.made k) (sym mark) (tried g (goal.at.returns-else-is_empty g c).After-advance-in-loop-made (passed g (goal.at.returns-else-is_empty g c).After-passes-pass))),
+      subst (λ i. Quiet (sought m n (passing p b keeps)) i k (bookmark m n q')) spent (subst (Quiet (sought m n (passing p b keeps)) c.loop-made.made k) (sym mark) (tried g (goal.at.returns-in-Some g c).After-advance-in-loop-made (passed g (goal.at.returns-in-Some g c).After-passes-pass))),
       at_no_end (bookmark m n q') (held q') (mark ∙ standing_some (held q') (omega arith)),
       c.loop-made.invariant.3,
     )

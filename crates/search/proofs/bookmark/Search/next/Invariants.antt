@@ -1,4 +1,4 @@
-use Rattle.std.proofs.Common.{◌≡◌, ◌-◌, ◌<◌, length}
+use Rattle.std.proofs.Common.{◌≡◌, ◌-◌, ◌<◌, length, take}
 use Rattle.promise.specs.Search.{Quiet}
 use Rattle.promise.specs.Hits.{passing}
 use Rattle.pattern.specs.Drawn.{drawn}
@@ -16,3 +16,5 @@ invariant-loop-made g l =
     × (l.tries.pattern.now ≡ l.pattern)
     × (l.tries.board.now ≡ l.board)
     × (l.tries.sieve.now ≡ l.sieve)
+    × (take (length l.self.levels.items) l.numbers ≡ held l.self)
+    × (length l.numbers ≡ 16)
