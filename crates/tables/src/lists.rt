@@ -91,7 +91,7 @@ impl<'a> NetList<'a> {
 }
 
 // From so many parts on, `contains`, which looks at sixteen numbers at a time, takes less time than to look at one by one.
-const FEW_PARTS: usize = 8;
+const FEW_PARTS: usize = 12;
 
 // No binary search: tables that nobody has checked may have lists that do not ascend.
 pub fn holds(parts: &[u16], v: u16) -> bool
