@@ -1,36 +1,14 @@
--- Whether numbers differ, told from the last of them.
-use Rattle.std.proofs.Common.{◌≡◌, ℕ, ◌==◌, ◌||◌, ◌&&◌, not, Bool, true, false, List, [], ◌∷◌, ◌++◌, refl, sym, ap, ◌∙◌, ⊎_elim, eq-eqb, ne_eqb}
-use Rattle.std.proofs.lemmas.Bool.Decides.{eqb_tells}
-use Rattle.circuit.specs.Circuit.{member, are_distinct}
+-- Whether a number stands behind another, looked at one by one.
+use Rattle.std.proofs.Common.{◌≡◌, ℕ, ◌+◌, ◌<◌, ◌≤◌, true, false, ◌||◌, List, length, get_or, drop, ap, ◌∙◌, eq-eqb, ne_eqb}
+use Rattle.std.proofs.lemmas.List.{drop_more, drop_all}
+use Rattle.circuit.specs.Circuit.{member}
 
-turned : (x y : ℕ) → (x == y) ≡ (y == x)
-turned x y = ⊎_elim (λ h. h.0 ∙ sym (eq-eqb y x (sym h.1))) (λ h. h.0 ∙ sym (ne_eqb y x (λ q. h.1 (sym q)))) (eqb_tells x y)
+module _ (v : ℕ) (xs : List ℕ) (i : ℕ) where
+  pub comes_here : i < length xs → get_or xs i 0 ≡ v → member (drop i xs) v ≡ true
+  comes_here h e = ap (λ ys. member ys v) (drop_more xs i 0 h) ∙ ap (λ b. b || member (drop (i + 1) xs) v) (eq-eqb (get_or xs i 0) v e)
 
-member_last : (s : List ℕ) (x v : ℕ) → member (s ++ x ∷ []) v ≡ (member s v || x == v)
-member_last [] x v = go (x == v)
-  where
-    go : (p : Bool) → (p || false) ≡ (false || p)
-    go true = refl
-    go false = refl
-member_last (y ∷ s) x v = go (y == v) (member_last s x v)
-  where
-    go : (p : Bool) → member (s ++ x ∷ []) v ≡ (member s v || x == v) → (p || member (s ++ x ∷ []) v) ≡ ((p || member s v) || x == v)
-    go true e = refl
-    go false e = e
+  pub comes_later : i < length xs → (get_or xs i 0 ≡ v → ⊥) → member (drop i xs) v ≡ member (drop (i + 1) xs) v
+  comes_later h e = ap (λ ys. member ys v) (drop_more xs i 0 h) ∙ ap (λ b. b || member (drop (i + 1) xs) v) (ne_eqb (get_or xs i 0) v e)
 
-pub distinct_last : (s : List ℕ) (x : ℕ) → are_distinct (s ++ x ∷ []) ≡ (not (member s x) && are_distinct s)
-distinct_last [] x = refl
-distinct_last (y ∷ s) x =
-    ap (λ (t : Bool). not t && are_distinct (s ++ x ∷ [])) (member_last s x y ∙ ap (λ (t : Bool). member s y || t) (turned x y))
-    ∙ ap (λ (t : Bool). not (member s y || y == x) && t) (distinct_last s x)
-    ∙ go (member s y) (member s x) (y == x) (are_distinct s)
-  where
-    go : (a b p d : Bool) → (not (a || p) && (not b && d)) ≡ (not (p || b) && (not a && d))
-    go true true true d = refl
-    go true true false d = refl
-    go true false true d = refl
-    go true false false d = refl
-    go false true true d = refl
-    go false true false d = refl
-    go false false true d = refl
-    go false false false d = refl
+  pub comes_no_more : length xs ≤ i → member (drop i xs) v ≡ false
+  comes_no_more h = ap (λ ys. member ys v) (drop_all i xs h)

@@ -3,17 +3,19 @@ ghost use Rattle.std.specs.Prelude.{◌≡◌, ℕ, ◌<◌, ◌≤◌, length};
 ghost use Rattle.circuit.specs.Circuit.{are_distinct};
 ghost use Rattle.matching.specs.Mapped.{past};
 
-// Whether no number comes twice. From the last one on, since a try adds a number behind those that differ already;
-// one by one, since a tuple has at most sixteen numbers, and mostly two or three.
+// Whether no number comes twice. One by one, since the tuples of a search have at most sixteen numbers, and mostly two or three;
+// from the first on, so that an early repeat is told at once, however long the tuple is.
 pub fn differ(tuple: &[u16]) -> bool
     ensures { result ≡ are_distinct tuple.now }
 {
     let mut rest = tuple;
-    while let Some((last, before)) = rest.split_last() {
-        if before.iter().any(|number| *number == *last) {
-            return false;
+    while let Some((first, behind)) = rest.split_first() {
+        for number in behind {
+            if *number == *first {
+                return false;
+            }
         }
-        rest = before;
+        rest = behind;
     }
     true
 }
