@@ -46,7 +46,8 @@ impl Search {
             && self.levels.iter().all(|level| level.net < span.nets)
     }
 
-    // The numbers of the levels, in front of a plain array, from which the tries of a call lend a start.
+    // The numbers of the levels, from which the tries of a call lend a start. In front of a plain array: to push them into
+    // an `ArrayVec` took more time.
     fn numbers(&self) -> [u16; 16]
         ensures { take (length self.now.levels.items) result ≡ held self.now }
     {

@@ -90,7 +90,8 @@ impl<'a> NetList<'a> {
     }
 }
 
-// From so many parts on, `contains`, which looks at sixteen numbers at a time, takes less time than to look at one by one.
+// From so many parts on, `contains`, which looks at sixteen numbers at a time, takes less time than to look at one by one,
+// but for the first few parts of a long list.
 const FEW_PARTS: usize = 12;
 
 // No binary search: tables that nobody has checked may have lists that do not ascend.
